@@ -1,0 +1,4 @@
+pub mod Commands
+pub mod Compact
+pub mod Devices
+pub mod Statuses

@@ -1,0 +1,34 @@
+//! The program: its words name a command, which reads standard input and writes standard output.
+#![tactic(auto)]
+
+mod compact;
+mod devices;
+mod notes;
+mod run;
+mod status;
+mod words;
+
+pub use run::run;
+pub use status::Status;
+
+use room_io::{StdSink, StdSource};
+use std::process::ExitCode;
+
+fn main(rt: HostRuntime) -> ExitCode {
+    let alloc = rt.alloc();
+    let mut source = StdSource::new(rt.stdin());
+    let mut sink = StdSink::new(rt.stdout());
+    let mut notes = StdSink::new(rt.stderr());
+    let words = match std::env::args(&rt) {
+        Ok(words) => words.skip(1).collect::<Vec<String>>(alloc),
+        Err(_) => Ok(Vec::new(alloc)),
+    };
+    let status = match words {
+        Ok(words) => run(alloc, &words, &mut source, &mut sink, &mut notes),
+        Err(_) => Status::Memory,
+    };
+    ExitCode::from(status.code())
+}
+
+#[cfg(test)]
+mod tests;
