@@ -1,0 +1,6 @@
+pub mod Standing
+pub mod Indexing
+pub mod Naming
+pub mod Faults
+pub mod Once
+pub mod Paths

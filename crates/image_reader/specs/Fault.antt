@@ -1,0 +1,64 @@
+-- Which test of the bytes of an image fails first, at which place, and with which value there.
+use Rattle.std.specs.Prelude.{◌≡◌, ◌≢◌, ℕ, ◌+◌, ◌*◌, ◌^◌, ◌<◌, ◌≤◌, ◌⊎◌, List, length, take, slice_index, slice_range}
+use Rattle.std.specs.Int.{w64, from_le_bytes}
+use Rattle.image_core.specs.Fault.{FaultKind, short, magic, too_many_words, too_many_roots, long, overrun, too_many_objects, bad_reference, bad_root, WordsFail}
+use Rattle.image_reader.specs.Bytes.{magic_bytes, Spells}
+
+-- the number that eight bytes from a place on spell
+abbrev pub word_at : List ℕ → ℕ → ℕ
+word_at bytes place = from_le_bytes w64 (slice_range bytes place (place + 8))
+
+-- how many words the header says, and how many roots
+abbrev pub words_said : List ℕ → ℕ
+words_said bytes = word_at bytes 8
+
+abbrev pub roots_said : List ℕ → ℕ
+roots_said bytes = word_at bytes 16
+
+-- how many bytes there should be, as the header says
+abbrev pub length_said : List ℕ → ℕ
+length_said bytes = 24 + 8 * (words_said bytes + roots_said bytes)
+
+-- there is a header, and it begins with the magic
+pub record HasMagic (bytes : List ℕ) : Type 0 where
+  pub long_enough : 24 ≤ length bytes
+  pub magic_there : take 8 bytes ≡ magic_bytes
+
+-- and its counts are within the limits
+pub record HasHeader (bytes : List ℕ) : Type 0 where
+  pub begins : HasMagic bytes
+  pub few_words : words_said bytes ≤ 2 ^ 22
+  pub few_roots : roots_said bytes ≤ 2 ^ 16
+
+-- the first byte that is not that of the magic
+pub record IsOtherMagic (bytes : List ℕ) (place : ℕ) : Type 0 where
+  pub within : place < 8
+  pub differs : slice_index bytes place ≢ slice_index magic_bytes place
+  pub before : take place bytes ≡ take place magic_bytes
+
+-- all tests of the header and of the length pass, and this is the first that the words and roots fail
+abbrev pub SpelledFail : List ℕ → FaultKind → ℕ → ℕ → Type 0
+SpelledFail bytes kind place value =
+    (words : List ℕ) × (roots : List ℕ) × Spells bytes words roots × WordsFail words roots kind place value
+
+-- the test of this kind is the first that the bytes fail; the tests stand in their order, and the second of the length is of the kind short too
+abbrev pub BytesFail : List ℕ → FaultKind → ℕ → ℕ → Type 0
+BytesFail bytes short place value =
+    (place ≡ length bytes)
+    × (((length bytes < 24) × (value ≡ 24))
+      ⊎ (HasHeader bytes × (length bytes < length_said bytes) × (value ≡ length_said bytes)))
+BytesFail bytes magic place value = (24 ≤ length bytes) × IsOtherMagic bytes place × (value ≡ slice_index bytes place)
+BytesFail bytes too_many_words place value =
+    HasMagic bytes × (2 ^ 22 < words_said bytes) × (place ≡ 8) × (value ≡ words_said bytes)
+BytesFail bytes too_many_roots place value =
+    HasMagic bytes × (words_said bytes ≤ 2 ^ 22) × (2 ^ 16 < roots_said bytes) × (place ≡ 16) × (value ≡ roots_said bytes)
+BytesFail bytes long place value =
+    HasHeader bytes × (length_said bytes < length bytes) × (place ≡ length_said bytes) × (value ≡ slice_index bytes place)
+BytesFail bytes overrun place value = SpelledFail bytes overrun place value
+BytesFail bytes too_many_objects place value = SpelledFail bytes too_many_objects place value
+BytesFail bytes bad_reference place value = SpelledFail bytes bad_reference place value
+BytesFail bytes bad_root place value = SpelledFail bytes bad_root place value
+
+-- some test fails on the bytes
+abbrev pub HasFault : List ℕ → Type 0
+HasFault bytes = (kind : FaultKind) × (place : ℕ) × (value : ℕ) × BytesFail bytes kind place value

@@ -1,0 +1,10 @@
+//! Images as bytes.
+#![tactic(auto)]
+
+mod frame;
+mod read;
+mod words;
+mod write;
+
+pub use read::read_image;
+pub use write::write_image;
