@@ -1,13 +1,8 @@
-// A library with one function.
+//! Marking and sliding an image on one thread.
 #![tactic(auto)]
 
-ghost use Rattle.std.specs.Prelude.{◌≡◌};
-ghost use Rattle.image_slide.specs.Echo.{echo_of};
+mod mark;
+mod slide;
 
-// The `ensures` clause is the contract: what `echo` returns is `echo_of` of its argument, a definition
-// in `specs/Echo.antt`, which a caller's clause can cite too.
-pub fn echo(x: usize) -> usize
-    ensures { result ≡ echo_of x }
-{
-    x
-}
+pub use mark::mark_one;
+pub use slide::slide_one;
