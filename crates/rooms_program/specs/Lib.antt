@@ -1,4 +1,4 @@
 pub mod Commands
 pub mod Compact
-pub mod Devices
+pub mod Runs
 pub mod Statuses

@@ -2,16 +2,15 @@
 #![tactic(auto)]
 
 mod compact;
-mod devices;
 mod notes;
+mod perform;
 mod run;
 mod status;
 mod words;
 
+use room_io::{StdSink, StdSource};
 pub use run::run;
 pub use status::Status;
-
-use room_io::{StdSink, StdSource};
 use std::process::ExitCode;
 
 fn main(rt: HostRuntime) -> ExitCode {

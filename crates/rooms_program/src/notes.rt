@@ -2,7 +2,7 @@
 ghost use Rattle.std.specs.Prelude.{◌≡◌, ◌≢◌, ◌≤◌, ◌+◌, ◌++◌, length, decimal};
 ghost use Rattle.arrayvec.specs.ArrayString.{array_string_len};
 ghost use Rattle.rooms_program.specs.Statuses.{note_of, kind_name};
-ghost use Rattle.rooms_program.specs.Devices.{IsNoted};
+ghost use Rattle.rooms_program.specs.Runs.{IsNoted};
 
 use crate::status::Status;
 use arrayvec::ArrayString;

@@ -1,13 +1,20 @@
 //! The words of the command line.
-ghost use Rattle.std.specs.Prelude.{◌≡◌, ◌↔◌, map, string_bytes, IsTrue};
-ghost use Rattle.rooms_program.specs.Commands.{IsAccepted};
+ghost use Rattle.std.specs.Prelude.{◌≡◌, map, string_bytes, MatchOption};
+ghost use Rattle.rooms_program.specs.Commands.{Names};
 
-/// Whether the words name a command.
-pub fn is_accepted(words: &[String]) -> bool
-    ensures { IsTrue result ↔ IsAccepted (map string_bytes words.now) }
+/// What the program can be told to do.
+#[derive(Clone, Copy, Debug, PartialEq, Eq)]
+pub enum Command {
+    /// Reads an image and writes its slide: the live objects alone, in order and without gaps.
+    Compact,
+}
+
+/// The command that the words name, if they name one.
+pub fn named_command(words: &[String]) -> Option<Command>
+    ensures { MatchOption result ((other : Command) → ¬ Names (map string_bytes words.now) other) (λ command. Names (map string_bytes words.now) command) }
 {
     match words {
-        [word] => word.as_str() == "compact",
-        _ => false,
+        [word] if word.as_str() == "compact" => Some(Command::Compact),
+        _ => None,
     }
 }

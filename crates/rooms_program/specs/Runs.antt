@@ -1,0 +1,52 @@
+-- What a run of a command did to its source, its sink and its notes.
+use Rattle.std.specs.Prelude.{◌≡◌, ℕ, ◌+◌, ◌⊎◌, List, length, take}
+use Rattle.std.specs.declared.option.Option.{Option}
+use Rattle.std.specs.Io.KnownBytes.{Appends, Consumes, IsAtEnd}
+use Rattle.room_io.specs.Causes.{Rose, AppendsPrefix}
+use Rattle.rooms_program.specs.Commands.{most_bytes, IsOutput, Refuses}
+use Rattle.rooms_program.specs.declared.words.Command.{Command}
+use Rattle.rooms_program.specs.declared.status.Status.{Status}
+use Rattle.rooms_program.specs.declared.status.Status.TheVariants as status
+
+-- these bytes were read: all of the input, or one more than the most that can be accepted
+pub record WasRead (most : ℕ) (left now_left : Option (List ℕ)) (bytes : List ℕ) : Type 0 where
+  pub taken : Consumes left now_left bytes
+  pub enough : IsAtEnd now_left ⊎ (length bytes ≡ most + 1)
+
+-- the input was read to its end, and the sink gained its output
+pub record WroteAll (command : Command) (left now_left written now_written : Option (List ℕ)) : Type 0 where
+  pub input : List ℕ
+  pub output : List ℕ
+  pub taken : Consumes left now_left input
+  pub ended : IsAtEnd now_left
+  pub defined : IsOutput command input output
+  pub wrote : Appends written now_written output
+
+-- the input was read to its end, and the sink gained a prefix of its output
+pub record WrotePart (command : Command) (left now_left written now_written : Option (List ℕ)) : Type 0 where
+  pub input : List ℕ
+  pub output : List ℕ
+  pub taken : Consumes left now_left input
+  pub ended : IsAtEnd now_left
+  pub defined : IsOutput command input output
+  pub wrote : AppendsPrefix written now_written output
+
+-- the bytes that were read are refused, and the status says why
+pub record WasRefused (command : Command) (left now_left : Option (List ℕ)) (why : Status) : Type 0 where
+  pub bytes : List ℕ
+  pub read : WasRead (most_bytes command) left now_left bytes
+  pub refuses : Refuses command bytes why
+
+-- an input that has an output gets it, and one whose bytes are refused gets that refusal, unless memory is wanting
+pub record IsAnswered (command : Command) (input : List ℕ) (answer : Status) : Type 0 where
+  pub accepts : (output : List ℕ) → IsOutput command input output → (answer ≡ status.Good) ⊎ (answer ≡ status.Memory)
+  pub refuses : (why : Status) → Refuses command (take (most_bytes command + 1) input) why → (answer ≡ why) ⊎ (answer ≡ status.Memory)
+
+-- a refusal of the bytes that were read
+abbrev pub IsRefusal : Status → Type 0
+IsRefusal (status.Image fault) = Unit {0}
+IsRefusal _ = ⊥
+
+-- the notes gained the whole text, or a prefix of it where their count of faults rose
+abbrev pub IsNoted : Option (List ℕ) → Option (List ℕ) → ℕ → ℕ → List ℕ → Type 0
+IsNoted old new faults now_faults text = Appends old new text ⊎ (Rose faults now_faults × AppendsPrefix old new text)

@@ -1,0 +1,57 @@
+//! The top call.
+ghost use Rattle.std.specs.Prelude.{◌≡◌, ◌≢◌, ◌↔◌, map, string_bytes, IfSome};
+ghost use Rattle.room_io.specs.Causes.{Rose};
+ghost use Rattle.rooms_program.specs.Commands.{Names};
+ghost use Rattle.rooms_program.specs.Runs.{WroteAll, WrotePart, WasRefused, IsAnswered, IsRefusal, IsNoted};
+ghost use Rattle.rooms_program.specs.Statuses.{note_of};
+
+use crate::notes::give_note;
+use crate::perform::perform;
+use crate::status::Status;
+use crate::words::{Command, named_command};
+use room_io::{Sink, Source};
+use std::alloc::Global;
+
+/// Performs the command that the words name, from the source to the sink, and leaves a note of one
+/// line for a status other than `Good`. It waits for nobody.
+///
+/// `compact` reads an image and writes its slide: the live objects alone, in order, moved down
+/// without gaps. The output is complete in memory before the first write.
+///
+/// # Refusals, in their order
+///
+/// - `Words`: exactly where the words name no command; nothing is read or written.
+/// - `ReadFault`: only where a read of this call failed.
+/// - `Image`: exactly where the bytes read are no image.
+/// - `WriteFault`: only where a write of this call failed; the sink gained a prefix of the output.
+/// - `Memory`: for want of memory, at any point; the sink gained nothing.
+pub fn run<S: Source, K: Sink, N: Sink>(
+    alloc: Global,
+    words: &[String],
+    source: &mut S,
+    sink: &mut K,
+    notes: &mut N,
+) -> Status
+    ensures words { (result ≡ Status.Words) ↔ ((command : Command) → ¬ Names (map string_bytes words.now) command) }
+    ensures unread { result ≡ Status.Words → source.new ≡ source.old }
+    ensures good { (command : Command) → Names (map string_bytes words.now) command → result ≡ Status.Good
+        → WroteAll command (S.left source.old) (S.left source.new) (K.written sink.old) (K.written sink.new) }
+    ensures refused { (command : Command) → Names (map string_bytes words.now) command → IsRefusal result
+        → WasRefused command (S.left source.old) (S.left source.new) result }
+    ensures read { result ≡ Status.ReadFault → Rose (S.faults source.old) (S.faults source.new) }
+    ensures write { result ≡ Status.WriteFault → Rose (K.faults sink.old) (K.faults sink.new) }
+    ensures cut { (command : Command) → Names (map string_bytes words.now) command → result ≡ Status.WriteFault
+        → WrotePart command (S.left source.old) (S.left source.new) (K.written sink.old) (K.written sink.new) }
+    ensures unwritten { result ≢ Status.Good → result ≢ Status.WriteFault → sink.new ≡ sink.old }
+    ensures noted { result ≢ Status.Good → IsNoted (N.written notes.old) (N.written notes.new) (N.faults notes.old) (N.faults notes.new) (note_of result) }
+    ensures silent { result ≡ Status.Good → notes.new ≡ notes.old }
+    ensures complete { (command : Command) → Names (map string_bytes words.now) command → IfSome (S.left source.old) (λ input.
+        ¬ Rose (S.faults source.old) (S.faults source.new) → ¬ Rose (K.faults sink.old) (K.faults sink.new) → IsAnswered command input result) }
+{
+    let status = match named_command(words) {
+        Some(command) => perform(alloc, command, source, sink),
+        None => Status::Words,
+    };
+    give_note(notes, status);
+    status
+}
