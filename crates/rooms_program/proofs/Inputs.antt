@@ -11,9 +11,9 @@ use Rattle.image_reader.proofs.Once.{no_fault}
 use Rattle.rooms_program.specs.Commands.{most_bytes, IsOutput, Refuses}
 use Rattle.rooms_program.specs.Runs.{WasRead, IsAnswered}
 use Rattle.rooms_program.specs.declared.words.Command.{Command}
-use Rattle.rooms_program.specs.declared.words.Command.TheVariants.{Compact}
+use Rattle.rooms_program.specs.declared.words.Command.TheVariants.{Compact, Schedule}
 use Rattle.rooms_program.specs.declared.status.Status.{Status}
-use Rattle.rooms_program.specs.declared.status.Status.TheVariants.{Good, Words, Image, ReadFault, WriteFault, Memory}
+use Rattle.rooms_program.specs.declared.status.Status.TheVariants.{Good, Words, Image, ReadFault, WriteFault, Script, Act, TooLong, Memory}
 
 -- an image has no more bytes than an image may have
 image_size : (bytes : List ℕ) (heap : Heap) → IsImage bytes heap → length bytes ≤ most_bytes Compact
@@ -24,6 +24,7 @@ image_size bytes heap i =
 -- an input that has an output is not too long
 pub output_size : (command : Command) (input output : List ℕ) → IsOutput command input output → length input ≤ most_bytes command
 output_size Compact input output o = image_size input o.heap o.image
+output_size Schedule input output o = o.few
 
 -- an input of which no more was read than can be accepted was read to its end
 pub read_to_end : (most : ℕ) (left now_left : Option (List ℕ)) (bytes : List ℕ) → WasRead most left now_left bytes → length bytes ≤ most → IsAtEnd now_left
@@ -51,14 +52,17 @@ answered A B command (Some input) bytes answer known accepts refuses = λ no_rea
           refuses why (subst P (sym known) r);
     }
 
--- what has an output is not refused
-pub not_both : (command : Command) (input output : List ℕ) (why : Status) → IsOutput command input output → Refuses command input why → ⊥
-not_both Compact input output (Image fault) o r = no_fault input o.heap o.image r.1
-not_both Compact input output Good o r = r
-not_both Compact input output Words o r = r
-not_both Compact input output ReadFault o r = r
-not_both Compact input output WriteFault o r = r
-not_both Compact input output Memory o r = r
+-- an image is not refused
+pub image_unrefused : (bytes : List ℕ) (heap : Heap) (why : Status) → IsImage bytes heap → Refuses Compact bytes why → ⊥
+image_unrefused bytes heap (Image fault) i r = no_fault bytes heap i r.1
+image_unrefused bytes heap Good i r = r
+image_unrefused bytes heap Words i r = r
+image_unrefused bytes heap ReadFault i r = r
+image_unrefused bytes heap WriteFault i r = r
+image_unrefused bytes heap (Script line) i r = r
+image_unrefused bytes heap (Act at act) i r = r
+image_unrefused bytes heap TooLong i r = r
+image_unrefused bytes heap Memory i r = r
 
 -- bytes that are no image are refused with the one fault that tells no more
 pub image_refusal : (bytes : List ℕ) (why : Status) → Refuses Compact bytes why → why ≡ Image other
@@ -67,4 +71,7 @@ image_refusal bytes Good r = absurd r
 image_refusal bytes Words r = absurd r
 image_refusal bytes ReadFault r = absurd r
 image_refusal bytes WriteFault r = absurd r
+image_refusal bytes (Script line) r = absurd r
+image_refusal bytes (Act at act) r = absurd r
+image_refusal bytes TooLong r = absurd r
 image_refusal bytes Memory r = absurd r

@@ -1,3 +1,3 @@
 pub mod Digits
 pub mod Inputs
-pub mod Texts
+pub mod Schedules

@@ -1,4 +1,5 @@
 pub mod Commands
 pub mod Compact
 pub mod Runs
+pub mod Schedules
 pub mod Statuses

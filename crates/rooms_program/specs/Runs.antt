@@ -45,6 +45,9 @@ pub record IsAnswered (command : Command) (input : List ℕ) (answer : Status) :
 -- a refusal of the bytes that were read
 abbrev pub IsRefusal : Status → Type 0
 IsRefusal (status.Image fault) = Unit {0}
+IsRefusal (status.Script line) = Unit {0}
+IsRefusal (status.Act at why) = Unit {0}
+IsRefusal status.TooLong = Unit {0}
 IsRefusal _ = ⊥
 
 -- the notes gained the whole text, or a prefix of it where their count of faults rose

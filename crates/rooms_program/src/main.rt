@@ -5,11 +5,12 @@ mod compact;
 mod notes;
 mod perform;
 mod run;
+mod schedule;
 mod status;
 mod words;
 
 use room_io::{StdSink, StdSource};
-pub use run::run;
+pub use run::{run, schedule_run};
 pub use status::Status;
 use std::process::ExitCode;
 

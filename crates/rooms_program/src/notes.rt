@@ -1,13 +1,14 @@
 //! The note that a refusal leaves.
 ghost use Rattle.std.specs.Prelude.{◌≡◌, ◌≢◌, ◌≤◌, ◌+◌, ◌++◌, length, decimal};
 ghost use Rattle.arrayvec.specs.ArrayString.{array_string_len};
-ghost use Rattle.rooms_program.specs.Statuses.{note_of, kind_name};
+ghost use Rattle.rooms_program.specs.Statuses.{note_of, kind_name, refusal_name};
 ghost use Rattle.rooms_program.specs.Runs.{IsNoted};
 
 use crate::status::Status;
 use arrayvec::ArrayString;
 use image_core::{ImageFault, ImageKind};
 use itoa::Buffer;
+use room_core::Refused;
 use room_io::{Sink, write_whole};
 
 /// More bytes than any note has.
@@ -21,6 +22,20 @@ fn kind_name(kind: ImageKind) -> &'static str
 {
     match kind {
         ImageKind::Other => "Other",
+    }
+}
+
+fn refusal_name(why: Refused) -> &'static str
+    ensures name { result.now ≡ refusal_name why }
+    ensures short { length result.now ≤ 20 }
+{
+    match why {
+        Refused::NoCaller => "NoCaller",
+        Refused::NoRoom => "NoRoom",
+        Refused::NotFree => "NotFree",
+        Refused::NotIn => "NotIn",
+        Refused::Stuck => "Stuck",
+        Refused::Spent => "Spent",
     }
 }
 
@@ -49,6 +64,28 @@ fn image_note(fault: ImageFault) -> Line
     line
 }
 
+fn script_note(number: u64) -> Line
+    ensures { result.bytes ≡ note_of (Status.Script number) }
+{
+    let mut line = Line::new();
+    line.push_str("script line ");
+    push_number(&mut line, number);
+    line.push_str("\n");
+    line
+}
+
+fn act_note(at: u64, why: Refused) -> Line
+    ensures { result.bytes ≡ note_of (Status.Act at why) }
+{
+    let mut line = Line::new();
+    line.push_str("act ");
+    push_number(&mut line, at);
+    line.push_str(" ");
+    line.push_str(refusal_name(why));
+    line.push_str("\n");
+    line
+}
+
 fn plain_note(text: &str) -> Line
     requires { length text.now ≤ 20 }
     ensures { result.bytes ≡ text.now }
@@ -68,6 +105,9 @@ fn note(status: Status) -> Line
         Status::Image(fault) => image_note(fault),
         Status::ReadFault => plain_note("read fault\n"),
         Status::WriteFault => plain_note("write fault\n"),
+        Status::Script(number) => script_note(number),
+        Status::Act(at, why) => act_note(at, why),
+        Status::TooLong => plain_note("text too long\n"),
         Status::Memory => plain_note("out of memory\n"),
     }
 }

@@ -6,9 +6,9 @@ ghost use Rattle.rooms_program.specs.Commands.{most_bytes, IsOutput, Refuses};
 ghost use Rattle.rooms_program.specs.Runs.{WasRead, WroteAll, WrotePart, WasRefused, IsAnswered, IsRefusal};
 
 use crate::compact::compacted;
+use crate::schedule::{MOST_TEXT, scheduled};
 use crate::status::Status;
 use crate::words::Command;
-use image_core::ReadImage;
 use room_io::{ReadFail, Sink, Source, read_up_to, write_whole};
 use std::alloc::Global;
 
@@ -18,6 +18,7 @@ fn most(command: Command) -> usize
 {
     match command {
         Command::Compact => 34_078_744,
+        Command::Schedule => MOST_TEXT,
     }
 }
 
@@ -29,11 +30,8 @@ fn output(alloc: Global, command: Command, bytes: Vec<u8>) -> Result<Vec<u8>, St
     ensures refuses { (why : Status) → Refuses command bytes.items why → (result ≡ Err why) ⊎ (result ≡ Err Status.Memory) }
 {
     match command {
-        Command::Compact => match compacted(alloc, bytes) {
-            Ok(output) => Ok(output),
-            Err(ReadImage::Fault(fault)) => Err(Status::Image(fault)),
-            Err(ReadImage::Memory) => Err(Status::Memory),
-        },
+        Command::Compact => compacted(alloc, bytes),
+        Command::Schedule => scheduled(alloc, &bytes),
     }
 }
 

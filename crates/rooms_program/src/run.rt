@@ -16,13 +16,17 @@ use std::alloc::Global;
 /// line for a status other than `Good`. It waits for nobody.
 ///
 /// `compact` reads an image and writes its slide: the live objects alone, in order, moved down
-/// without gaps. The output is complete in memory before the first write.
+/// without gaps. `schedule` reads a text of acts and prints the run of the protocol on them. The
+/// output is complete in memory before the first write.
 ///
 /// # Refusals, in their order
 ///
 /// - `Words`: exactly where the words name no command; nothing is read or written.
 /// - `ReadFault`: only where a read of this call failed.
+/// - `TooLong`: exactly where a text has more than 1,048,576 bytes.
 /// - `Image`: exactly where the bytes read are no image.
+/// - `Script`: exactly where the text is no schedule, with the first line that breaks its rules.
+/// - `Act`: exactly where the core refuses an act, with the first one.
 /// - `WriteFault`: only where a write of this call failed; the sink gained a prefix of the output.
 /// - `Memory`: for want of memory, at any point; the sink gained nothing.
 pub fn run<S: Source, K: Sink, N: Sink>(
@@ -52,6 +56,33 @@ pub fn run<S: Source, K: Sink, N: Sink>(
         Some(command) => perform(alloc, command, source, sink),
         None => Status::Words,
     };
+    give_note(notes, status);
+    status
+}
+
+/// Performs `schedule` from the source to the sink, and leaves a note as `run` does. It waits for
+/// nobody. Its refusals are those of `run`, but `Words` and `Image`.
+pub fn schedule_run<S: Source, K: Sink, N: Sink>(
+    alloc: Global,
+    source: &mut S,
+    sink: &mut K,
+    notes: &mut N,
+) -> Status
+    ensures good { result ≡ Status.Good
+        → WroteAll Command.Schedule (S.left source.old) (S.left source.new) (K.written sink.old) (K.written sink.new) }
+    ensures refused { IsRefusal result → WasRefused Command.Schedule (S.left source.old) (S.left source.new) result }
+    ensures read { result ≡ Status.ReadFault → Rose (S.faults source.old) (S.faults source.new) }
+    ensures write { result ≡ Status.WriteFault → Rose (K.faults sink.old) (K.faults sink.new) }
+    ensures cut { result ≡ Status.WriteFault
+        → WrotePart Command.Schedule (S.left source.old) (S.left source.new) (K.written sink.old) (K.written sink.new) }
+    ensures unwritten { result ≢ Status.Good → result ≢ Status.WriteFault → sink.new ≡ sink.old }
+    ensures words { result ≢ Status.Words }
+    ensures noted { result ≢ Status.Good → IsNoted (N.written notes.old) (N.written notes.new) (N.faults notes.old) (N.faults notes.new) (note_of result) }
+    ensures silent { result ≡ Status.Good → notes.new ≡ notes.old }
+    ensures complete { IfSome (S.left source.old) (λ input.
+        ¬ Rose (S.faults source.old) (S.faults source.new) → ¬ Rose (K.faults sink.old) (K.faults sink.new) → IsAnswered Command.Schedule input result) }
+{
+    let status = perform(alloc, Command::Schedule, source, sink);
     give_note(notes, status);
     status
 }

@@ -1,5 +1,6 @@
-use crate::{Status, run};
+use crate::{Status, run, schedule_run};
 use image_core::{ImageFault, ImageKind};
+use room_core::Refused;
 use room_io::{MemSink, MemSource};
 use std::alloc::{AllocError, Global};
 use std::test::Fail;
@@ -124,7 +125,7 @@ fn a_failed_read_leaves_a_note(rt: HostRuntime) -> Result<(), Fail> {
 #[test]
 fn other_words_are_refused_and_nothing_is_read(rt: HostRuntime) -> Result<(), Fail> {
     let alloc = rt.alloc();
-    let cases: [&[&str]; 4] = [&["compact", "extra"], &[], &["--help"], &["compac"]];
+    let cases: [&[&str]; 4] = [&["compact", "extra"], &[], &["--help"], &["schedul"]];
     for case in cases {
         let mut words = Vec::new(alloc);
         for word in case {
@@ -156,10 +157,91 @@ fn each_status_has_its_number(rt: HostRuntime) -> Result<(), Fail> {
         (Status::Image(fault), 3),
         (Status::ReadFault, 4),
         (Status::WriteFault, 5),
+        (Status::Script(1), 6),
+        (Status::Act(1, Refused::Stuck), 7),
+        (Status::TooLong, 8),
         (Status::Memory, 9),
     ];
     for (status, number) in cases {
         assert_eq!(rt; status.code(), number);
+    }
+    Ok(())
+}
+
+/// Runs `schedule` on a text, by its words and by its own call: how each ended, and what the first
+/// wrote to the sink and to the notes.
+fn scheduled(alloc: Global, text: &[u8]) -> Result<(Status, Status, MemSink, MemSink), AllocError> {
+    let words = [String::from_str(alloc, "schedule")?];
+    let mut source = MemSource::new(Vec::from_slice(alloc, text)?, Vec::new(alloc), 1000000);
+    let mut sink = MemSink::new(alloc, 1000, Vec::new(alloc), 1000)?;
+    let mut notes = MemSink::new(alloc, 100, Vec::new(alloc), 100)?;
+    let status = run(alloc, &words, &mut source, &mut sink, &mut notes);
+    let mut source = MemSource::new(Vec::from_slice(alloc, text)?, Vec::new(alloc), 1000000);
+    let mut other_sink = MemSink::new(alloc, 1000, Vec::new(alloc), 1000)?;
+    let mut other_notes = MemSink::new(alloc, 100, Vec::new(alloc), 100)?;
+    let other = schedule_run(alloc, &mut source, &mut other_sink, &mut other_notes);
+    Ok((status, other, sink, notes))
+}
+
+#[test]
+fn schedule_prints_the_run(rt: HostRuntime) -> Result<(), Fail> {
+    let alloc = rt.alloc();
+    let one = "schedule 1\nrooms 4\ncallers 1\ndraw 0 0\nstep 0\nstep 0\nstep 0\nstep 0\nstep 0\n";
+    let late =
+        "schedule 1\nrooms 4\ncallers 2\ndraw 0 0\nstep 0\nstep 0\nstep 0\nstep 0\ndraw 1 0\nstep 0\nstep 1\nstep 1\n";
+    let next =
+        "schedule 1\nrooms 2\ncallers 3\ndraw 0 0\nstep 0\nstep 0\nstep 0\nstep 0\nstep 0\ndraw 1 0\ndraw 2 1\nleave 0\nstep 0\nstep 0\nstep 0\nstep 0\nstep 0\nstep 2\nstep 2\n";
+    let idle =
+        "schedule 1\nrooms 2\ncallers 2\ndraw 0 0\nstep 0\nstep 0\nstep 0\nstep 0\nstep 0\nleave 0\nstep 0\ndraw 1 1\nstep 0\nstep 0\nstep 0\nstep 0\nstep 1\nstep 1\nstep 1\nstep 1\nstep 1\n";
+    let cases = [
+        (one, "open 1 0 0 1\nenter 0 0\nactive 9\ncaller 0 Inside\n"),
+        (
+            late,
+            "open 1 0 0 1\nenter 0 0\nactive 9\ncaller 0 Inside\ncaller 1 Looking\n",
+        ),
+        (
+            next,
+            "open 1 0 0 1\nenter 0 0\nleave 0\nexit 0 begin\nexit 0 end\nopen 2 1 0 1\nenter 2 1\nactive 18\ncaller 0 Out\ncaller 1 Looking\ncaller 2 Inside\n",
+        ),
+        (
+            idle,
+            "open 1 0 0 1\nenter 0 0\nleave 0\nexit 0 begin\nexit 0 end\nopen 2 1 0 1\nenter 1 1\nactive 18\ncaller 0 Out\ncaller 1 Inside\n",
+        ),
+    ];
+    for (text, output) in cases {
+        let (status, other, sink, notes) = scheduled(alloc, text.as_bytes())?;
+        assert_eq!(rt; status, Status::Good);
+        assert_eq!(rt; other, Status::Good);
+        assert_eq!(rt; sink.written(), output.as_bytes());
+        assert!(rt; notes.written().is_empty());
+    }
+    Ok(())
+}
+
+#[test]
+fn schedule_refuses_texts_and_acts(rt: HostRuntime) -> Result<(), Fail> {
+    let alloc = rt.alloc();
+    let long = vec![in alloc; b'\n'; 1_048_577]?;
+    let cases = [
+        (
+            "schedule 1\nrooms 1\ncallers 1\nleave 0\n".as_bytes(),
+            Status::Act(1, Refused::NotIn),
+            "act 1 NotIn\n",
+        ),
+        (b"".as_slice(), Status::Script(1), "script line 1\n"),
+        (
+            b"schedule 1\nrooms 8\n".as_slice(),
+            Status::Script(2),
+            "script line 2\n",
+        ),
+        (long.as_slice(), Status::TooLong, "text too long\n"),
+    ];
+    for (text, refusal, note) in cases {
+        let (status, other, sink, notes) = scheduled(alloc, text)?;
+        assert_eq!(rt; status, refusal);
+        assert_eq!(rt; other, refusal);
+        assert!(rt; sink.written().is_empty());
+        assert_eq!(rt; notes.written(), note.as_bytes());
     }
     Ok(())
 }

@@ -1,5 +1,5 @@
 //! The words of the command line.
-ghost use Rattle.std.specs.Prelude.{◌≡◌, map, string_bytes, MatchOption};
+ghost use Rattle.std.specs.Prelude.{◌≡◌, [], ◌∷◌, map, string_bytes, MatchOption};
 ghost use Rattle.rooms_program.specs.Commands.{Names};
 
 /// What the program can be told to do.
@@ -7,6 +7,8 @@ ghost use Rattle.rooms_program.specs.Commands.{Names};
 pub enum Command {
     /// Reads an image and writes its slide: the live objects alone, in order and without gaps.
     Compact,
+    /// Reads a schedule and prints the run of the protocol on its acts.
+    Schedule,
 }
 
 /// The command that the words name, if they name one.
@@ -14,7 +16,20 @@ pub fn named_command(words: &[String]) -> Option<Command>
     ensures { MatchOption result ((other : Command) → ¬ Names (map string_bytes words.now) other) (λ command. Names (map string_bytes words.now) command) }
 {
     match words {
-        [word] if word.as_str() == "compact" => Some(Command::Compact),
+        [word] => one_word(word.as_str()),
         _ => None,
+    }
+}
+
+/// The command of one word.
+fn one_word(word: &str) -> Option<Command>
+    ensures { MatchOption result ((other : Command) → ¬ Names (word.now ∷ []) other) (λ command. Names (word.now ∷ []) command) }
+{
+    if word == "compact" {
+        Some(Command::Compact)
+    } else if word == "schedule" {
+        Some(Command::Schedule)
+    } else {
+        None
     }
 }

@@ -1,0 +1,9 @@
+pub mod Cuts
+pub mod Decimals
+pub mod Spelled
+pub mod Acts
+pub mod Fronts
+pub mod Heads
+pub mod Plans
+pub mod Texts
+pub mod Judged

@@ -1,0 +1,5 @@
+pub mod Breaks
+pub mod Lines
+pub mod Numbers
+pub mod Prints
+pub mod Schedules

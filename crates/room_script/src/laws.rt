@@ -1,0 +1,15 @@
+ghost use Rattle.std.specs.Prelude.{◌≡◌, ◌⊎◌, ℕ, List};
+ghost use Rattle.room_script.specs.Breaks.{BreaksAt};
+ghost use Rattle.room_script.specs.Schedules.{Plan, Spells, IsSchedule};
+
+/// The lines of a text are those of one schedule, or one line is the first that breaks the rules.
+pub fn each_text_is_judged()
+    ensures either { (lines : List (List ℕ))
+        → IsSchedule lines ⊎ ((k : ℕ) × BreaksAt IsSchedule lines k) }
+    ensures never_both { (lines : List (List ℕ)) (k : ℕ)
+        → IsSchedule lines → ¬ BreaksAt IsSchedule lines k }
+    ensures one_schedule { (lines : List (List ℕ)) (p q : Plan)
+        → Spells lines p → Spells lines q → p ≡ q }
+    ensures one_line { (lines : List (List ℕ)) (j k : ℕ)
+        → BreaksAt IsSchedule lines j → BreaksAt IsSchedule lines k → j ≡ k }
+{}

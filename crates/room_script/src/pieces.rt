@@ -1,0 +1,62 @@
+ghost use Rattle.std.specs.Prelude.{◌==◌, [], ◌∷◌, ◌++◌, IfOk};
+ghost use Rattle.std.specs.List.{slice_split};
+ghost use Rattle.room_script.specs.Lines.{lines_of, parts_of, bytes_at, IsRange, StandAt};
+
+use std::alloc::{AllocError, Global};
+
+/// A range of a text: its bytes from `from` up to, not including, `to`.
+#[derive(Clone, Copy, Debug, PartialEq, Eq)]
+pub struct Piece {
+    pub from: usize,
+    pub to: usize,
+}
+
+/// The lines of a text, in order and without their newlines: it is cut at each newline. A newline
+/// that ends the text begins no further line, and an empty text has no lines. Fails only by memory.
+pub fn lines(alloc: Global, text: &[u8]) -> Result<Vec<Piece>, AllocError>
+    ensures { IfOk result (λ v. StandAt text.now 0 (lines_of text.now) v.items) }
+{
+    let whole = Piece {
+        from: 0,
+        to: text.len(),
+    };
+    let (mut pieces, rest) = cut(alloc, text, whole, b'\n')?;
+    if rest.from < rest.to {
+        pieces.push(rest)?;
+    }
+    Ok(pieces)
+}
+
+/// The parts of a line, in order: it is cut at each space. Two spaces together have an empty part
+/// between them, and an empty line has one empty part. Fails only by memory.
+pub fn parts(alloc: Global, text: &[u8], line: Piece) -> Result<Vec<Piece>, AllocError>
+    requires { IsRange text.now line }
+    ensures { IfOk result
+        (λ v. StandAt text.now line.from (parts_of (bytes_at text.now line)) v.items) }
+{
+    let (mut pieces, rest) = cut(alloc, text, line, b' ')?;
+    pieces.push(rest)?;
+    Ok(pieces)
+}
+
+// The pieces of `whole` that end at its separators, and the rest after them.
+fn cut(
+    alloc: Global,
+    text: &[u8],
+    whole: Piece,
+    separator: u8,
+) -> Result<(Vec<Piece>, Piece), AllocError>
+    requires { IsRange text.now whole }
+    ensures { IfOk result (λ cut. StandAt text.now whole.from
+        (slice_split (λ b. b == separator) (bytes_at text.now whole)) (cut.0.items ++ cut.1 ∷ [])) }
+{
+    let mut pieces = Vec::new(alloc);
+    let mut from = whole.from;
+    for at in whole.from..whole.to {
+        if text[at] == separator {
+            pieces.push(Piece { from, to: at })?;
+            from = at + 1;
+        }
+    }
+    Ok((pieces, Piece { from, to: whole.to }))
+}

@@ -1,0 +1,39 @@
+use Rattle.std.proofs.Common.{◌≡◌, ◌∙◌, ◌≤◌, ap, sym, inl, inr, Err, length, arith}
+use Rattle.room_core.specs.declared.runs.RunFault.TheVariants as ran
+use Rattle.room_script.specs.Schedules.{plan_of}
+use Rattle.rooms_program.specs.Schedules.{most_text}
+use Rattle.rooms_program.proofs.Schedules.{broken, stopped, unprinted, unrefused}
+use Rattle.rooms_program.proofs.schedule.scheduled.Goals as goal
+
+pub returns-in-Err-Line-clause-refuses : goal.returns-in-Err-Line-clause-refuses
+returns-in-Err-Line-clause-refuses c = λ why r.
+    let few : length c.args.text.now ≤ most_text = c.if-text-gt-MOST_TEXT.false in
+    let is = c.in-Err-Line.field-0-is in
+    rw is (inl (ap Err (broken c.args.text.now few c.in-Err-Line.line
+    (λ k b. elim (c.in-Err-Line.ensures.told k b) [ inl e ↦ cc | inr e ↦ absurd (cc) ])
+    (λ p s. let e = c.in-Err-Line.ensures.found p s in absurd (cc))
+    why r)))
+
+pub returns-in-Err-Act-clause-accepts : goal.returns-in-Err-Act-clause-accepts
+returns-in-Err-Act-clause-accepts c = λ output o.
+    let few : length c.args.text.now ≤ most_text = c.if-text-gt-MOST_TEXT.false in
+    let told = c.in-Err-Act.ensures.refused c.in-Err-Act.at c.in-Err-Act.why (ap Err c.in-Err-Act.field-0-is) in
+    let first = rw c.deref.ensures.value at told in
+    absurd (unprinted c.args.text.now few (plan_of c.in-Ok.schedule) (λ k b. c.in-Ok.ensures.told k b) (λ p s. c.in-Ok.ensures.found p s)
+    c.in-Err-Act.at c.in-Err-Act.why first output o)
+
+pub returns-in-Err-Act-clause-refuses : goal.returns-in-Err-Act-clause-refuses
+returns-in-Err-Act-clause-refuses c = λ why r.
+    let few : length c.args.text.now ≤ most_text = c.if-text-gt-MOST_TEXT.false in
+    let told = c.in-Err-Act.ensures.refused c.in-Err-Act.at c.in-Err-Act.why (ap Err c.in-Err-Act.field-0-is) in
+    let first = rw c.deref.ensures.value at told in
+    rw c.in-Err-Act.field-0-is (inl (ap Err (stopped c.args.text.now few (plan_of c.in-Ok.schedule) (λ k b. c.in-Ok.ensures.told k b) (λ p s. c.in-Ok.ensures.found p s)
+    c.in-Err-Act.at c.in-Err-Act.why first why r)))
+
+pub returns-clause-refuses : goal.returns-clause-refuses
+returns-clause-refuses c = λ why r.
+    let few : length c.args.text.now ≤ most_text = c.if-text-gt-MOST_TEXT.false in
+    let all = c.in-Ok-run.ensures.accepted in
+    let accepted = rw c.deref.ensures.value at all in
+    absurd (unrefused c.args.text.now few (plan_of c.in-Ok.schedule) (λ k b. c.in-Ok.ensures.told k b) (λ p s. c.in-Ok.ensures.found p s)
+    accepted why r)
