@@ -40,21 +40,21 @@ module _ (words heads : List ℕ) (fill : Fill words heads) where
         reference = IsReference-place words heads object k within below;
         unnamed = λ names. bad.unnamed (subst (Names heads) (sym (get_or-references words head k below)) names);
         first = λ earlier less reference.
-          let at = reference_place words heads earlier reference in
-          let front : ℕ = get_or heads at.0 0 in
-          let word : get_or (references_at words front) at.1 0 ≡ get_or words earlier 0 =
+            let at = reference_place words heads earlier reference in
+            let front : ℕ = get_or heads at.0 0 in
+            let word : get_or (references_at words front) at.1 0 ≡ get_or words earlier 0 =
             get_or-references words front at.1 at.3 ∙ ap (λ n. get_or words n 0) (sym at.4) in
-          subst (Names heads) word (elim (cases_lt at.0 object) [
-            inl old ↦
-              before at.0 old at.1 0 (omega (arith, at.3, length-references words front (Fill-fits words heads fill at.0 at.2)))
-            | inr more ↦ elim (cases_lt object at.0) [
-                inl above ↦ absurd (omega (arith, at.4, less, below, Stand-order words 0 heads (length words) fill object at.0 above at.2))
+            subst (Names heads) word (elim (cases_lt at.0 object) [
+              | inl old ↦
+                  before at.0 old at.1 0 (omega (arith, at.3, length-references words front (Fill-fits words heads fill at.0 at.2)))
+              | inr more ↦ elim (cases_lt object at.0) [
+                | inl above ↦ absurd (omega (arith, at.4, less, below, Stand-order words 0 heads (length words) fill object at.0 above at.2))
                 | inr same ↦
-                  let is : at.0 ≡ object = omega arith in
-                  subst (λ o. Names heads (get_or (references_at words (get_or heads o 0)) at.1 0)) (sym is)
-                  (bad.first at.1 (omega (arith, at.4, less, ap (λ o. get_or heads o 0) is)))
+                    let is : at.0 ≡ object = omega arith in
+                    subst (λ o. Names heads (get_or (references_at words (get_or heads o 0)) at.1 0)) (sym is)
+                    (bad.first at.1 (omega (arith, at.4, less, ap (λ o. get_or heads o 0) is)))
               ]
-          ]);
+            ]);
       }
 
   -- a reference word of an object that names something

@@ -18,6 +18,6 @@ named heads word (inr (object, head, below, at, is)) =
 -- a word that names a header is at most the number of words
 pub Names-within : (words heads : List ℕ) (word : ℕ) → Fill words heads → Names heads word → word ≤ length words
 Names-within words heads word fill names = elim (named heads word names) [
-  inl none_ ↦ omega (arith, none_)
+  | inl none_ ↦ omega (arith, none_)
   | inr there ↦ omega (arith, there.2, Fill-fits words heads fill there.0 there.1)
 ]

@@ -21,7 +21,7 @@ bad_reference_none : (words heads : List ℕ) (place : ℕ) → Fill words heads
 bad_reference_none words heads place fill each bad =
     let at = reference_place words heads place bad.reference in
     let word : get_or (references_at words (get_or heads at.0 0)) at.1 0 ≡ get_or words place 0 =
-      get_or-references words (get_or heads at.0 0) at.1 at.3 ∙ ap (λ n. get_or words n 0) (sym at.4) in
+    get_or-references words (get_or heads at.0 0) at.1 at.3 ∙ ap (λ n. get_or words n 0) (sym at.4) in
     bad.unnamed (subst (Names heads) word (Names-reference words heads fill each at.0 at.1 at.2 at.3))
 
 pub lawful_no_fault : (heap : Heap) (kind : FaultKind) (place value : ℕ) → IsLawful heap → WordsFail heap.words heap.roots kind place value → ⊥
@@ -47,7 +47,7 @@ pub no_fault : (words roots : List ℕ) (heap : Heap) → IsHeapOf words roots h
 no_fault words roots heap is (kind, place, value, fails) =
     lawful_no_fault heap kind place value is.lawful
     (subst (λ ws. WordsFail ws heap.roots kind place value) (sym is.words_are)
-      (subst (λ rs. WordsFail words rs kind place value) (sym is.roots_are) fails))
+    (subst (λ rs. WordsFail words rs kind place value) (sym is.roots_are) fails))
 
 -- and are of that heap alone
 pub same_heap : (words roots : List ℕ) (a b : Heap) → IsHeapOf words roots a → IsHeapOf words roots b → a ≡ b

@@ -42,7 +42,7 @@ module _ (heap : Heap) (lawful : IsLawful heap) where
   pub root_of : (word : ℕ) → Contains heap.roots word → 0 < word
       → (object : ℕ) × IsObject heap object × (word ≡ name_of heap object) × IsLive heap object
   root_of word root some_ = elim (named heap.heads word (All-contains (Names heap.heads) heap.roots word lawful.roots root)) [
-    inl none_ ↦ absurd (omega (arith, none_, some_))
+    | inl none_ ↦ absurd (omega (arith, none_, some_))
     | inr there ↦ (there.0, there.1, there.2, IsLive-root heap there.0 (there.1, subst (Contains heap.roots) there.2 root))
   ]
 
@@ -52,7 +52,7 @@ module _ (heap : Heap) (lawful : IsLawful heap) where
   reference_of object word is reference some_ =
       let all : All (Names heap.heads) (references_at heap.words (head_of heap object)) = lawful.references object 0 is in
       elim (named heap.heads word (All-contains (Names heap.heads) (references_at heap.words (head_of heap object)) word all reference)) [
-        inl none_ ↦ absurd (omega (arith, none_, some_))
+        | inl none_ ↦ absurd (omega (arith, none_, some_))
         | inr there ↦
-          (there.0, there.1, there.2, (is, there.1, subst (Contains (references_at heap.words (head_of heap object))) there.2 reference))
+            (there.0, there.1, there.2, (is, there.1, subst (Contains (references_at heap.words (head_of heap object))) there.2 reference))
       ]

@@ -63,9 +63,9 @@ Fill-fits words heads fill n below = (Stand-at words 0 heads (length words) fill
 pub Fill-once : (words heads : List ℕ) → Fill words heads → (m n : ℕ) → m < length heads → n < length heads
     → get_or heads m 0 ≡ get_or heads n 0 → m ≡ n
 Fill-once words heads fill m n within below same = elim (cases_lt m n) [
-  inl less ↦ absurd (omega (arith, Stand-order words 0 heads (length words) fill m n less below))
+  | inl less ↦ absurd (omega (arith, Stand-order words 0 heads (length words) fill m n less below))
   | inr more ↦ elim (cases_lt n m) [
-      inl above ↦ absurd (omega (arith, Stand-order words 0 heads (length words) fill n m above within))
-      | inr equal ↦ omega arith
-    ]
+    | inl above ↦ absurd (omega (arith, Stand-order words 0 heads (length words) fill n m above within))
+    | inr equal ↦ omega arith
+  ]
 ]

@@ -4,4 +4,4 @@ use Rattle.std.specs.Prelude.{◌≡◌, ℕ, ◌+◌, ◌<◌, ◌↔◌, List,
 -- the entry of a place is 1 + an object's number exactly where the header of that object stands there
 pub record IsIndex (heads numbers : List ℕ) : Type 0 where
   pub entry : (place object : ℕ)
-    → (slice_index numbers place ≡ object + 1) ↔ ((object < length heads) × (slice_index heads object ≡ place))
+      → (slice_index numbers place ≡ object + 1) ↔ ((object < length heads) × (slice_index heads object ≡ place))

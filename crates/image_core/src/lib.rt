@@ -10,7 +10,9 @@ mod object;
 mod walk;
 
 pub use fault::{ImageFault, ImageKind, ReadImage};
-pub use header::{refs, size};
+pub use header::size;
 pub use image::Image;
 pub use object::{Obj, data, references};
 
+#[cfg(test)]
+mod tests;

@@ -5,12 +5,12 @@ use Rattle.image_core.proofs.check.all_named.Goals as goal
 
 pub returns-then-not-is_name-clause-bad : goal.returns-then-not-is_name-clause-bad
 returns-then-not-is_name-clause-bad c = (
-    c.loop-word.word-index,
-    record {
-      within = c.loop-word-test.true;
-      unnamed = λ names. let named = c.is_name.ensures.1 names in cc;
-      first = c.loop-word.invariant;
-    },
+  c.loop-word.word-index,
+  record {
+    within = c.loop-word-test.true;
+    unnamed = λ names. let named = c.is_name.ensures.1 names in cc;
+    first = c.loop-word.invariant;
+  },
 )
 
 pub returns-clause-all : goal.returns-clause-all

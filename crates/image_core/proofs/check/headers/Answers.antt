@@ -17,10 +17,10 @@ pub returns-else-references_named-clause-fault : goal.returns-else-references_na
 returns-else-references_named-clause-fault c =
     let few : length c.in_ok-index.index ≤ 2 ^ 20 = omega (arith, ap length c.in_ok-index.ensures, c.in-Some.heads.ok.0) in
     let fill : Fill c.args.words.now c.in_ok-index.index =
-      subst (Fill c.args.words.now) (sym c.in_ok-index.ensures) (rw c.in-Some.is at c.in_ok-heads.ensures.fill) in
+    subst (Fill c.args.words.now) (sym c.in_ok-index.ensures) (rw c.in-Some.is at c.in_ok-heads.ensures.fill) in
     elim c.else-references_named.branch [
-      else-references_named-via-then-references_named+else-all_named w ↦
-        fault_of_root _ _ _ _ fill few w.if-references_named.ensures.all w.if-all_named.ensures.bad.1
+      | else-references_named-via-then-references_named+else-all_named w ↦
+          fault_of_root _ _ _ _ fill few w.if-references_named.ensures.all w.if-all_named.ensures.bad.1
       | else-references_named-via-else-references_named w ↦
-        fault_of_reference _ _ _ _ fill few w.if-references_named.ensures.bad.1
+          fault_of_reference _ _ _ _ fill few w.if-references_named.ensures.bad.1
     ]

@@ -16,9 +16,10 @@ pub returns-then-not-all_named-clause-bad : goal.returns-then-not-all_named-clau
 returns-then-not-all_named-clause-bad c =
     let heads = c.args.index.now in
     let object = c.loop-head.head-index in
-    let bad = rw (c.references.ensures, c.heads-head-items.ensures) at c.if-not-all_named.ensures.bad in
-    (get_or heads object 0 + 1 + bad.0,
-     bad_reference_of c.args.words.now heads c.requires object bad.0 (rw c.heads-head-items.ensures at c.loop-head-test.true) c.loop-head.invariant bad.1)
+    let bad = rw (c.references.ensures, c.heads-head-items.ensures) at c.if-not-all_named.ensures.bad in (
+      get_or heads object 0 + 1 + bad.0,
+      bad_reference_of c.args.words.now heads c.requires object bad.0 (rw c.heads-head-items.ensures at c.loop-head-test.true) c.loop-head.invariant bad.1,
+    )
 
 pub returns-clause-all : goal.returns-clause-all
 returns-clause-all c = λ object d below.

@@ -11,12 +11,15 @@ references-words-requires c =
 pub bounds-words-k : goal.bounds-words-k
 bounds-words-k c =
     rw (c.references-words.ensures, c.heads.ensures, c.as_slice.ensures.value)
-    (omega (arith, rw (← c.self.view_is) at c.requires.reference,
+    (omega (
+      arith,
+      rw (← c.self.view_is) at c.requires.reference,
       length-references c.self.inside.words.items (get_or c.self.inside.index c.args.object 0)
-        (Fill-fits _ _ c.self.invariant.fill c.args.object (rw (← c.self.view_is) at c.requires.object))))
+          (Fill-fits _ _ c.self.invariant.fill c.args.object (rw (← c.self.view_is) at c.requires.object)),
+    ))
 
 pub target-requires : goal.target-requires
 target-requires c =
     rw (c.references-words.ensures, c.heads.ensures, c.as_slice.ensures.value)
     (Names-reference _ _ c.self.invariant.fill c.self.invariant.references c.args.object c.args.k
-      (rw (← c.self.view_is) at c.requires.object) (rw (← c.self.view_is) at c.requires.reference))
+    (rw (← c.self.view_is) at c.requires.object) (rw (← c.self.view_is) at c.requires.reference))
