@@ -14,12 +14,14 @@ pub Spells-header : (bytes words roots : List ℕ) → Spells bytes words roots 
 Spells-header bytes words roots spells =
     let w : words_said bytes ≡ length words = ap words_said spells.spelled_so ∙ words_said-spelling words roots spells.few_words in
     let r : roots_said bytes ≡ length roots = ap roots_said spells.spelled_so ∙ roots_said-spelling words roots spells.few_roots in
-    let whole : length bytes ≡ 24 + 8 * (length words + length roots) = ap length spells.spelled_so ∙ length-spelling words roots in
-    (record {
-      begins = record { long_enough = omega arith; magic_there = ap (take 8) spells.spelled_so };
-      few_words = omega (arith, spells.few_words);
-      few_roots = omega (arith, spells.few_roots);
-    }, omega arith)
+    let whole : length bytes ≡ 24 + 8 * (length words + length roots) = ap length spells.spelled_so ∙ length-spelling words roots in (
+      record {
+        begins = record { long_enough = omega arith; magic_there = ap (take 8) spells.spelled_so };
+        few_words = omega (arith, spells.few_words);
+        few_roots = omega (arith, spells.few_roots);
+      },
+      omega arith,
+    )
 
 -- where two lists that differ first do so
 pub record Differ (xs ys : List ℕ) (n place : ℕ) : Type 0 where
@@ -34,11 +36,11 @@ first_differing zero [] (y ∷ ys) count also = absurd (omega (arith, also))
 first_differing (suc n) [] ys count also = absurd (omega (arith, count))
 first_differing (suc n) (x ∷ xs) [] count also = absurd (omega (arith, also))
 first_differing (suc n) (x ∷ xs) (y ∷ ys) count also = elim (cases_eq x y) [
-  inl same ↦ elim (first_differing n xs ys (omega (arith, count)) (omega (arith, also))) [
-    inl all ↦ inl cc
+  | inl same ↦ elim (first_differing n xs ys (omega (arith, count)) (omega (arith, also))) [
+    | inl all ↦ inl cc
     | inr rest ↦
-      let before : take rest.0 xs ≡ take rest.0 ys = rest.1.before in
-      inr (suc rest.0, record { within = omega (arith, rest.1.within); differs = rest.1.differs; before = cc })
+        let before : take rest.0 xs ≡ take rest.0 ys = rest.1.before in
+        inr (suc rest.0, record { within = omega (arith, rest.1.within); differs = rest.1.differs; before = cc })
   ]
   | inr apart ↦ inr (0, record { within = omega arith; differs = apart; before = refl })
 ]
@@ -54,16 +56,16 @@ module _ (bytes : List ℕ) (long_enough : 24 ≤ length bytes) where
 
   pub magic_missed : starts_with eqb bytes magic_bytes ≡ false → HasFault bytes
   magic_missed missed = elim (first_differing 8 (take 8 bytes) magic_bytes front refl) [
-    inl same ↦
-      let whole : bytes ≡ magic_bytes ++ drop 8 bytes = sym (take-append-drop 8 bytes) ∙ ap (λ z. z ++ drop 8 bytes) same in
-      absurd (false≢true (sym missed ∙ (starts_is Decides-eqb bytes magic_bytes (starts_with eqb bytes magic_bytes) refl).1 (drop 8 bytes) whole))
+    | inl same ↦
+        let whole : bytes ≡ magic_bytes ++ drop 8 bytes = sym (take-append-drop 8 bytes) ∙ ap (λ z. z ++ drop 8 bytes) same in
+        absurd (false≢true (sym missed ∙ (starts_is Decides-eqb bytes magic_bytes (starts_with eqb bytes magic_bytes) refl).1 (drop 8 bytes) whole))
     | inr at ↦
-      let other : IsOtherMagic bytes at.0 = record {
-        within = at.1.within;
-        differs = λ same. at.1.differs (get_or-take 8 bytes at.0 0 at.1.within ∙ same);
-        before = sym (take-take at.0 8 bytes (omega (arith, at.1.within))) ∙ at.1.before;
-      } in
-      (magic, at.0, get_or bytes at.0 0, (long_enough, other, refl))
+        let other : IsOtherMagic bytes at.0 = record {
+          within = at.1.within;
+          differs = λ same. at.1.differs (get_or-take 8 bytes at.0 0 at.1.within ∙ same);
+          before = sym (take-take at.0 8 bytes (omega (arith, at.1.within))) ∙ at.1.before;
+        } in
+        (magic, at.0, get_or bytes at.0 0, (long_enough, other, refl))
   ]
 
 pub fault_of_short : (bytes : List ℕ) → length bytes < 24 → HasFault bytes
@@ -77,6 +79,6 @@ fault_of_roots bytes begins few many = (too_many_roots, 16, roots_said bytes, (b
 
 pub fault_of_length : (bytes : List ℕ) → HasHeader bytes → length bytes ≢ length_said bytes → HasFault bytes
 fault_of_length bytes header differs = elim (cases_lt (length bytes) (length_said bytes)) [
-  inl below ↦ (short, length bytes, length_said bytes, (refl, inr (header, below, refl)))
+  | inl below ↦ (short, length bytes, length_said bytes, (refl, inr (header, below, refl)))
   | inr above ↦ (long, length_said bytes, get_or bytes (length_said bytes) 0, (header, omega (arith, differs), refl, refl))
 ]

@@ -31,8 +31,13 @@ length-spelled (word ∷ words) = omega (arith, length-append (word_bytes word) 
 
 pub length-spelling : (words roots : List ℕ) → length (spelling words roots) ≡ 24 + 8 * (length words + length roots)
 length-spelling words roots =
-    omega (arith, length-append (magic_bytes ++ word_bytes (length words) ++ word_bytes (length roots) ++ spelled words) (spelled roots),
-      length-append (magic_bytes ++ word_bytes (length words) ++ word_bytes (length roots)) (spelled words), length-spelled words, length-spelled roots)
+    omega (
+      arith,
+      length-append (magic_bytes ++ word_bytes (length words) ++ word_bytes (length roots) ++ spelled words) (spelled roots),
+      length-append (magic_bytes ++ word_bytes (length words) ++ word_bytes (length roots)) (spelled words),
+      length-spelled words,
+      length-spelled roots,
+    )
 
 -- the five parts of bytes
 pub assembled : (bytes head w r ws rs : List ℕ) (end : ℕ) → 24 ≤ end → take 8 bytes ≡ head → slice_range bytes 8 16 ≡ w → slice_range bytes 16 24 ≡ r
@@ -85,7 +90,7 @@ roots_said-spelling words roots few = from_le_bytes-to_le_bytes_8 (length roots)
 pub Spells-once : (bytes xs rs ys ss : List ℕ) → Spells bytes xs rs → Spells bytes ys ss → (xs ≡ ys) × (rs ≡ ss)
 Spells-once bytes xs rs ys ss a b =
     let count : length xs ≡ length ys =
-      sym (ap words_said a.spelled_so ∙ words_said-spelling xs rs a.few_words) ∙ (ap words_said b.spelled_so ∙ words_said-spelling ys ss b.few_words) in
+    sym (ap words_said a.spelled_so ∙ words_said-spelling xs rs a.few_words) ∙ (ap words_said b.spelled_so ∙ words_said-spelling ys ss b.few_words) in
     let bodies : spelled xs ++ spelled rs ≡ spelled ys ++ spelled ss = ap (drop 24) (sym a.spelled_so ∙ b.spelled_so) in
     let parts = split_same (spelled xs) (spelled ys) (spelled rs) (spelled ss) (omega (arith, length-spelled xs, length-spelled ys, count)) bodies in
     (spelled_once xs ys a.words_fit b.words_fit parts.0, spelled_once rs ss a.roots_fit b.roots_fit parts.1)

@@ -46,7 +46,7 @@ abbrev pub BytesFail : List ℕ → FaultKind → ℕ → ℕ → Type 0
 BytesFail bytes short place value =
     (place ≡ length bytes)
     × (((length bytes < 24) × (value ≡ 24))
-      ⊎ (HasHeader bytes × (length bytes < length_said bytes) × (value ≡ length_said bytes)))
+    ⊎ (HasHeader bytes × (length bytes < length_said bytes) × (value ≡ length_said bytes)))
 BytesFail bytes magic place value = (24 ≤ length bytes) × IsOtherMagic bytes place × (value ≡ slice_index bytes place)
 BytesFail bytes too_many_words place value =
     HasMagic bytes × (2 ^ 22 < words_said bytes) × (place ≡ 8) × (value ≡ words_said bytes)

@@ -8,6 +8,7 @@ pub const MAGIC: &[u8; 8] = b"ROOMIMG1";
 
 /// The most heap words and the most roots of an image.
 const MOST_WORDS: u64 = 1 << 22;
+
 const MOST_ROOTS: u64 = 1 << 16;
 
 /// How many words and roots the bytes of an image spell.

@@ -8,3 +8,6 @@ mod write;
 
 pub use read::read_image;
 pub use write::write_image;
+
+#[cfg(test)]
+mod tests;

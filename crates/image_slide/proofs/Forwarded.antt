@@ -26,15 +26,18 @@ size_before words heads marks n = sum_by (size_at words) (kept (take n heads) (t
 
 module _ (words heads : List ℕ) (marks : List Bool) (n size : ℕ) (fill : Fill words heads) (below : n < length heads) (also : n < length marks)
     (so : size ≡ size_before words heads marks n) where
-
   -- the new place of the next object
   pub place_next : size ≡ new_place words (kept heads marks) (get_or heads n 0)
   place_next = so ∙ sym (new_place_before words heads marks n fill below)
 
   pub size_live : get_or marks n false ≡ true → size + size_at words (get_or heads n 0) ≡ size_before words heads marks (n + 1)
   size_live is =
-      omega (arith, ap (sum_by (size_at words)) (kept_live heads marks n below also is),
-        sum_by-append (size_at words) (kept (take n heads) (take n marks)) (get_or heads n 0 ∷ []), so)
+      omega (
+        arith,
+        ap (sum_by (size_at words)) (kept_live heads marks n below also is),
+        sum_by-append (size_at words) (kept (take n heads) (take n marks)) (get_or heads n 0 ∷ []),
+        so,
+      )
 
   pub size_dead : get_or marks n false ≡ false → size ≡ size_before words heads marks (n + 1)
   size_dead is = so ∙ ap (sum_by (size_at words)) (sym (kept_dead heads marks n below also is))
@@ -45,14 +48,14 @@ module _ (words heads : List ℕ) (marks : List Bool) (n size : ℕ) (fill : Fil
   pub Placed-more : (table : List ℕ) → length table ≡ length words → Placed words heads (kept heads marks) table n
       → Placed words heads (kept heads marks) (set table (get_or heads n 0) size) (n + 1)
   Placed-more table each placed object less = elim (cases_lt object n) [
-    inl old ↦
-      let apart : get_or heads object 0 ≢ get_or heads n 0 = λ same. omega (arith, old, Fill-once words heads fill object n (omega arith) below same) in
-      get_or-set_other table (get_or heads n 0) (get_or heads object 0) size 0 apart ∙ placed object old
+    | inl old ↦
+        let apart : get_or heads object 0 ≢ get_or heads n 0 = λ same. omega (arith, old, Fill-once words heads fill object n (omega arith) below same) in
+        get_or-set_other table (get_or heads n 0) (get_or heads object 0) size 0 apart ∙ placed object old
     | inr new ↦
-      let here : object ≡ n = omega arith in
-      ap (λ o. get_or (set table (get_or heads n 0) size) (get_or heads o 0) 0) here
-      ∙ get_or-set_same table (get_or heads n 0) size 0 (omega (arith, each, Fill-fits words heads fill n below))
-      ∙ place_next ∙ ap (λ o. new_place words (kept heads marks) (get_or heads o 0)) (sym here)
+        let here : object ≡ n = omega arith in
+        ap (λ o. get_or (set table (get_or heads n 0) size) (get_or heads o 0) 0) here
+        ∙ get_or-set_same table (get_or heads n 0) size 0 (omega (arith, each, Fill-fits words heads fill n below))
+        ∙ place_next ∙ ap (λ o. new_place words (kept heads marks) (get_or heads o 0)) (sym here)
   ]
 
   -- the new headers
@@ -71,7 +74,6 @@ module _ (words heads : List ℕ) (marks : List Bool) (n size : ℕ) (fill : Fil
 -- the words of the objects so far
 module _ (f : ℕ → List ℕ) (heads : List ℕ) (marks : List Bool) (n : ℕ) (below : n < length heads) (also : n < length marks) (out : List ℕ)
     (so : out ≡ flat_map f (kept (take n heads) (take n marks))) where
-
   pub words_live : (now : List ℕ) → get_or marks n false ≡ true → now ≡ out ++ f (get_or heads n 0)
       → now ≡ flat_map f (kept (take (n + 1) heads) (take (n + 1) marks))
   words_live now is grown =
@@ -100,15 +102,15 @@ module _ (heap : Heap) (live table : List ℕ) (is : IsTable heap live table) wh
   -- a word that names an object is renamed by the table
   new_name-renamed : (word : ℕ) → Names heap.heads word → new_name table word ≡ renamed heap.words live word
   new_name-renamed word names = elim (named heap.heads word names) [
-    inl none_ ↦ ap (new_name table) none_ ∙ ap (renamed heap.words live) (sym none_)
+    | inl none_ ↦ ap (new_name table) none_ ∙ ap (renamed heap.words live) (sym none_)
     | inr there ↦
-      let head : ℕ = head_of heap there.0 in
-      let some_ : eqb word 0 ≡ false = ne_eqb word 0 (λ none_. omega (arith, there.2, none_)) in
-      let back : word - 1 ≡ head = omega (arith, there.2) in
-      let place : get_or table (word - 1) 0 ≡ new_place heap.words live (word - 1) =
+        let head : ℕ = head_of heap there.0 in
+        let some_ : eqb word 0 ≡ false = ne_eqb word 0 (λ none_. omega (arith, there.2, none_)) in
+        let back : word - 1 ≡ head = omega (arith, there.2) in
+        let place : get_or table (word - 1) 0 ≡ new_place heap.words live (word - 1) =
         ap (λ p. get_or table p 0) back ∙ is.at there.0 there.1 ∙ ap (new_place heap.words live) (sym back) in
-      cond-false (eqb word 0) 0 (1 + get_or table (word - 1) 0) some_ ∙ ap (λ p. 1 + p) place
-      ∙ sym (cond-false (eqb word 0) 0 (1 + new_place heap.words live (word - 1)) some_)
+        cond-false (eqb word 0) 0 (1 + get_or table (word - 1) 0) some_ ∙ ap (λ p. 1 + p) place
+        ∙ sym (cond-false (eqb word 0) 0 (1 + new_place heap.words live (word - 1)) some_)
   ]
 
   pub new_names-renamed : (words : List ℕ) → All (Names heap.heads) words → map (new_name table) words ≡ map (renamed heap.words live) words
@@ -127,7 +129,7 @@ module _ (heap : Heap) (live table : List ℕ) (is : IsTable heap live table) wh
   pub all_forwarded-moved : IsLawful heap → (marks : List Bool) → live ≡ kept heap.heads marks
       → flat_map (forwarded heap.words table) live ≡ flat_map (moved heap.words live) live
   all_forwarded-moved lawful marks kept_is = flat_map-same (forwarded heap.words table) (moved heap.words live) live
-    (λ m below.
+      (λ m below.
       let from = kept_of heap.heads marks m (omega (arith, ap length kept_is)) in
       let at : head_of heap from.0 ≡ get_or live m 0 = from.3 ∙ ap (λ l. get_or l m 0) (sym kept_is) in
       subst (λ h. forwarded heap.words table h ≡ moved heap.words live h) at (forwarded-moved lawful from.0 from.1))
@@ -148,9 +150,9 @@ pub slide-forwarded : (heap : Heap) (marks : List Bool) (forwarding : Forwarding
 slide-forwarded heap marks forwarding words roots lawful forwards words_are roots_are =
     let live : List ℕ = kept heap.heads marks in
     let slid_words : words ≡ flat_map (moved heap.words live) live =
-      words_are ∙ all_forwarded-moved heap live forwarding.places.items forwards.table lawful marks refl in
+    words_are ∙ all_forwarded-moved heap live forwarding.places.items forwards.table lawful marks refl in
     let slid_roots : roots ≡ map (renamed heap.words live) heap.roots =
-      roots_are ∙ new_names-renamed heap live forwarding.places.items forwards.table heap.roots lawful.roots in
+    roots_are ∙ new_names-renamed heap live forwarding.places.items forwards.table heap.roots lawful.roots in
     let f : List ℕ → Heap = λ w. record { words = w; roots = roots; heads = forwarding.heads.items } in
     let g : List ℕ → Heap = λ r. record { words = flat_map (moved heap.words live) live; roots = r; heads = forwarding.heads.items } in
     let h : List ℕ → Heap = λ p. record { words = flat_map (moved heap.words live) live; roots = map (renamed heap.words live) heap.roots; heads = p } in

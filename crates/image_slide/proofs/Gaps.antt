@@ -109,8 +109,12 @@ sizes_before_from words from [] marks n gaps below = absurd (omega arith)
 sizes_before_from words from (head ∷ heads) marks zero gaps below = omega (arith, gaps.0)
 sizes_before_from words from (head ∷ heads) [] (suc n) gaps below = omega (arith, gaps.0, Gaps-at words from (head ∷ heads) gaps (suc n) below)
 sizes_before_from words from (head ∷ heads) (true ∷ marks) (suc n) gaps below =
-    omega (arith, gaps.0, sizes_before_from words (head + size_at words head) heads marks n gaps.1 (omega arith),
-      sum_by-cons (size_at words) head (kept (take n heads) (take n marks)))
+    omega (
+      arith,
+      gaps.0,
+      sizes_before_from words (head + size_at words head) heads marks n gaps.1 (omega arith),
+      sum_by-cons (size_at words) head (kept (take n heads) (take n marks)),
+    )
 sizes_before_from words from (head ∷ heads) (false ∷ marks) (suc n) gaps below =
     omega (arith, gaps.0, sizes_before_from words (head + size_at words head) heads marks n gaps.1 (omega arith))
 

@@ -6,3 +6,6 @@ mod slide;
 
 pub use mark::mark_one;
 pub use slide::slide_one;
+
+#[cfg(test)]
+mod tests;

@@ -105,7 +105,10 @@ fn new_names(alloc: Global, words: &[u64], places: &[u32]) -> Result<Vec<u64>, A
     requires { All (λ word. word ≤ length places.now) words.now }
     ensures { IfOk result (λ names. names.items ≡ map (new_name places.now) words.now) }
 {
-    words.iter().map(|word| new_name(places, *word)).collect(alloc)
+    words
+        .iter()
+        .map(|word| new_name(places, *word))
+        .collect(alloc)
 }
 
 /// The word that names an object at its place in the table, and 0 for 0.

@@ -14,9 +14,9 @@ returns c =
       words_fit = c.in_ok-words.ensures.fit;
       roots_fit = c.in_ok-roots.ensures.fit;
       spelled_so = assembled c.args.bytes.now _ _ _ _ _ (24 + 8 * c.args.frame.words) (omega arith)
-        c.requires.header.begins.magic_there
-        (sym c.requires.words_spelled ∙ ap word_bytes (sym words))
-        (sym c.requires.roots_spelled ∙ ap word_bytes (sym roots))
-        (sym c.in_ok-words.ensures.spelled)
-        (sym (take_rest c.args.bytes.now (24 + 8 * c.args.frame.words)) ∙ sym c.in_ok-roots.ensures.spelled);
+          c.requires.header.begins.magic_there
+          (sym c.requires.words_spelled ∙ ap word_bytes (sym words))
+          (sym c.requires.roots_spelled ∙ ap word_bytes (sym roots))
+          (sym c.in_ok-words.ensures.spelled)
+          (sym (take_rest c.args.bytes.now (24 + 8 * c.args.frame.words)) ∙ sym c.in_ok-roots.ensures.spelled);
     }

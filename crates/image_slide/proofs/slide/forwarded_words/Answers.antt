@@ -23,10 +23,10 @@ loop-object-preserved c =
     let below : n < length heap.heads = rw c.heads-heads.ensures.heads at c.loop-object-test.true in
     let also : n < length c.args.live.now = omega (arith, c.requires.live) in
     elim c.if-live-object.branch [
-      then-live-object+in_ok-push_forwarded w ↦
-        rw w.out-is (words_live (forwarded heap.words c.args.places.now) heap.heads c.args.live.now n below also c.loop-object.out.items c.loop-object.invariant
+      | then-live-object+in_ok-push_forwarded w ↦
+          rw w.out-is (words_live (forwarded heap.words c.args.places.now) heap.heads c.args.live.now n below also c.loop-object.out.items c.loop-object.invariant
           _ w.if-live-object.true (rw (c.words-words.ensures.words, c.heads-heads.ensures.heads) at w.in_ok-push_forwarded.ensures))
       | else-live-object w ↦
-        rw w.out-is (words_dead (forwarded heap.words c.args.places.now) heap.heads c.args.live.now n below also c.loop-object.out.items c.loop-object.invariant
+          rw w.out-is (words_dead (forwarded heap.words c.args.places.now) heap.heads c.args.live.now n below also c.loop-object.out.items c.loop-object.invariant
           w.if-live-object.false)
     ]

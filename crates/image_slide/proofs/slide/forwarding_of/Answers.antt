@@ -22,9 +22,13 @@ pub overflow_add-size : goal.overflow_add-size
 overflow_add-size c =
     let below = rw c.heads-old_heads.ensures.heads at c.loop-object-test.true in
     let sized : c.size.result ≡ size_at c.args.image.now.words (get_or c.args.image.now.heads c.loop-object.object 0) =
-      rw (c.words-words.ensures.words, c.heads-old_heads.ensures.heads) at c.size.ensures.value in
-    omega (arith, sized, c.words-words.ensures.lawful.few_words,
-      size_fits _ _ c.args.live.now c.loop-object.object _ c.words-words.ensures.lawful.fill below (omega (arith, c.requires)) c.loop-object.invariant.size)
+    rw (c.words-words.ensures.words, c.heads-old_heads.ensures.heads) at c.size.ensures.value in
+    omega (
+      arith,
+      sized,
+      c.words-words.ensures.lawful.few_words,
+      size_fits _ _ c.args.live.now c.loop-object.object _ c.words-words.ensures.lawful.fill below (omega (arith, c.requires)) c.loop-object.invariant.size,
+    )
 
 pub loop-object-preserved : goal.loop-object-preserved
 loop-object-preserved c =
@@ -36,25 +40,25 @@ loop-object-preserved c =
     record {
       each = length-set c.loop-object.places.items _ _ ∙ c.loop-object.invariant.each;
       size = elim c.if-live-object.branch [
-        then-live-object+in_ok-push w ↦
-          let sized : w.size.result ≡ size_at heap.words (get_or heap.heads n 0) =
+        | then-live-object+in_ok-push w ↦
+            let sized : w.size.result ≡ size_at heap.words (get_or heap.heads n 0) =
             rw (c.words-words.ensures.words, c.heads-old_heads.ensures.heads) at w.size.ensures.value in
-          w.size-is ∙ ap (λ s. c.loop-object.size + s) sized
-          ∙ size_live heap.words heap.heads c.args.live.now n c.loop-object.size fill below also c.loop-object.invariant.size w.if-live-object.true
+            w.size-is ∙ ap (λ s. c.loop-object.size + s) sized
+            ∙ size_live heap.words heap.heads c.args.live.now n c.loop-object.size fill below also c.loop-object.invariant.size w.if-live-object.true
         | else-live-object w ↦
-          w.size-is ∙ size_dead heap.words heap.heads c.args.live.now n c.loop-object.size fill below also c.loop-object.invariant.size w.if-live-object.false
+            w.size-is ∙ size_dead heap.words heap.heads c.args.live.now n c.loop-object.size fill below also c.loop-object.invariant.size w.if-live-object.false
       ];
       placed = rw c.heads-old_heads.ensures.heads
-        (Placed-more heap.words heap.heads c.args.live.now n c.loop-object.size fill below also c.loop-object.invariant.size
+          (Placed-more heap.words heap.heads c.args.live.now n c.loop-object.size fill below also c.loop-object.invariant.size
           c.loop-object.places.items c.loop-object.invariant.each c.loop-object.invariant.placed);
       heads = elim c.if-live-object.branch [
-        then-live-object+in_ok-push w ↦
-          rw (w.heads-is, w.in_ok-push.ensures.items)
-          (heads_live heap.words heap.heads c.args.live.now n c.loop-object.size fill below also c.loop-object.invariant.size
+        | then-live-object+in_ok-push w ↦
+            rw (w.heads-is, w.in_ok-push.ensures.items)
+            (heads_live heap.words heap.heads c.args.live.now n c.loop-object.size fill below also c.loop-object.invariant.size
             c.loop-object.heads.items c.loop-object.invariant.heads w.if-live-object.true)
         | else-live-object w ↦
-          rw w.heads-is
-          (heads_dead heap.words heap.heads c.args.live.now n c.loop-object.size fill below also c.loop-object.invariant.size
+            rw w.heads-is
+            (heads_dead heap.words heap.heads c.args.live.now n c.loop-object.size fill below also c.loop-object.invariant.size
             c.loop-object.heads.items c.loop-object.invariant.heads w.if-live-object.false)
       ];
     }

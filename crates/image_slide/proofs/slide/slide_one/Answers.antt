@@ -13,13 +13,13 @@ new_names-requires c =
 pub from_lawful-requires : goal.from_lawful-requires
 from_lawful-requires c =
     let slid = slide-forwarded c.args.image.now c.args.live.now c.in_ok-forwarding.forwarding _ _ c.roots.ensures.lawful c.in_ok-forwarding.ensures
-      (rw c.as_slice-places.ensures.value at c.in_ok-words.ensures)
-      (rw (c.as_slice-places.ensures.value, c.roots.ensures.roots) at c.in_ok-roots.ensures) in
+    (rw c.as_slice-places.ensures.value at c.in_ok-words.ensures)
+    (rw (c.as_slice-places.ensures.value, c.roots.ensures.roots) at c.in_ok-roots.ensures) in
     subst IsLawful (sym slid) (slide_lawful c.args.image.now c.args.live.now c.roots.ensures.lawful c.requires)
 
 pub returns : goal.returns
 returns c =
     let slid = slide-forwarded c.args.image.now c.args.live.now c.in_ok-forwarding.forwarding _ _ c.roots.ensures.lawful c.in_ok-forwarding.ensures
-      (rw c.as_slice-places.ensures.value at c.in_ok-words.ensures)
-      (rw (c.as_slice-places.ensures.value, c.roots.ensures.roots) at c.in_ok-roots.ensures) in
+    (rw c.as_slice-places.ensures.value at c.in_ok-words.ensures)
+    (rw (c.as_slice-places.ensures.value, c.roots.ensures.roots) at c.in_ok-roots.ensures) in
     rw slid at c.from_lawful.ensures
