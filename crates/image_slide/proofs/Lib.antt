@@ -1,6 +1,6 @@
 pub mod Marking
 pub mod Liveness
 pub mod Kept
-pub mod Gaps
-pub mod Forwarded
+pub mod Order
 pub mod Slid
+pub mod Renaming

@@ -1,24 +1,22 @@
-ghost use Rattle.std.specs.Prelude.{◌≡◌, ◌≤◌, ◌++◌, length, map, All, OnOk, IfOk};
+ghost use Rattle.std.specs.Prelude.{◌≡◌, ◌<◌, ◌≤◌, ◌^◌, ◌++◌, length, map, slice_index, All, OnOk, IfOk};
 ghost use Rattle.std.specs.List.{flat_map};
 ghost use Rattle.image_core.specs.Object.{Fits, references_at};
 ghost use Rattle.image_core.specs.Live.{Marks};
 ghost use Rattle.image_slide.specs.Slide.{slide, kept};
 
-use image_core::{Image, data, references};
+use image_core::{Image, data, references, size};
 use std::alloc::{AllocError, Global};
 
-/// Where the objects of an image go.
+/// Where the live objects go.
 #[derive(Drop)]
-struct Forwarding {
-    /// By word, the new place of the object whose header stands there.
-    places: Vec<u32>,
-    /// The new places of the live objects, in order.
-    heads: Vec<u32>,
-    /// How many words these have.
+struct NewPlaces {
+    /// By word, the new place of the live object whose header stands there.
+    table: Vec<u32>,
+    /// How many words the live objects have.
     size: u32,
 }
 
-ghost use Rattle.image_slide.specs.Forwarding.{Forwards, new_name, forwarded};
+ghost use Rattle.image_slide.specs.Table.{InOrder, AreNewPlaces, AreNames, new_name, moved_by};
 
 /// The image with its live objects alone, in order and without gaps. `live` has a value for each
 /// object, as `mark_one` gives them.
@@ -26,100 +24,114 @@ pub fn slide_one(alloc: Global, image: &Image, live: &[bool]) -> Result<Image, A
     requires { Marks image.now live.now }
     ensures { IfOk result (λ slid. slid ≡ slide image.now live.now) }
 {
-    let forwarding = forwarding_of(alloc, image, live)?;
-    let places = forwarding.places.as_slice();
-    let words = forwarded_words(alloc, image, live, places, forwarding.size as usize)?;
-    let roots = new_names(alloc, image.roots(), places)?;
-    Image::from_lawful(alloc, words, roots, forwarding.heads)
-}
-
-/// Where the objects go if these are kept.
-fn forwarding_of(alloc: Global, image: &Image, live: &[bool]) -> Result<Forwarding, AllocError>
-    requires { length live.now ≡ length image.now.heads }
-    ensures { IfOk result (Forwards image.now (kept image.now.heads live.now)) }
-{
     let words = image.words();
-    let old_heads = image.heads();
-    let mut places = vec![in alloc; 0u32; words.len()]?;
-    let mut heads = Vec::new(alloc);
-    let mut size = 0u32;
-    for object in 0..old_heads.len() {
-        let head = old_heads[object] as usize;
-        places[head] = size;
-        if live[object] {
-            heads.push(size)?;
-            size += image_core::size(words[head]) as u32;
-        }
-    }
-    Ok(Forwarding {
-        places,
-        heads,
-        size,
-    })
+    let kept = kept_heads(alloc, image.heads(), live)?;
+    let kept = kept.as_slice();
+    let new = new_places(alloc, words, kept)?;
+    let table = new.table.as_slice();
+    let moved = moved_words(alloc, words, kept, table, new.size as usize)?;
+    let roots = new_names(alloc, image.roots(), table)?;
+    let heads = places_at(alloc, kept, table)?;
+    Image::from_lawful(alloc, moved, roots, heads)
 }
 
-/// The words of the live objects, renamed by the table.
-fn forwarded_words(
+/// The places of the headers whose objects are marked.
+fn kept_heads(alloc: Global, heads: &[u32], marks: &[bool]) -> Result<Vec<u32>, AllocError>
+    ensures { IfOk result (λ found. found.items ≡ kept heads.now marks.now) }
+{
+    heads
+        .iter()
+        .zip(marks)
+        .filter(|(_, marked)| **marked)
+        .map(|(head, _)| *head)
+        .collect(alloc)
+}
+
+/// Where these objects go if they are kept.
+fn new_places(alloc: Global, words: &[u64], kept: &[u32]) -> Result<NewPlaces, AllocError>
+    requires few { length words.now ≤ 2 ^ 22 }
+    requires order { InOrder words.now 0 kept.now }
+    ensures { IfOk result (AreNewPlaces words.now kept.now) }
+{
+    let mut table = vec![in alloc; 0u32; words.len()]?;
+    let mut next = 0u32;
+    for head in kept {
+        let at = *head as usize;
+        table[at] = next;
+        next += size(words[at]) as u32;
+    }
+    Ok(NewPlaces { table, size: next })
+}
+
+/// The words of these objects, one after another, renamed by the table.
+fn moved_words(
     alloc: Global,
-    image: &Image,
-    live: &[bool],
-    places: &[u32],
+    words: &[u64],
+    kept: &[u32],
+    table: &[u32],
     size: usize,
 ) -> Result<Vec<u64>, AllocError>
-    requires live { length live.now ≡ length image.now.heads }
-    requires places { length places.now ≡ length image.now.words }
-    ensures { IfOk result (λ words. words.items ≡ flat_map (forwarded image.now.words places.now) (kept image.now.heads live.now)) }
+    requires fit { All (Fits words.now) kept.now }
+    requires names { All (λ head. AreNames table.now (references_at words.now head)) kept.now }
+    ensures { IfOk result (λ moved. moved.items ≡ flat_map (moved_by words.now table.now) kept.now) }
 {
-    let words = image.words();
-    let heads = image.heads();
     let mut out = Vec::with_capacity(alloc, size)?;
-    for object in 0..heads.len() {
-        if live[object] {
-            push_forwarded(words, heads[object] as usize, places, &mut out)?;
-        }
+    for head in kept {
+        push_moved(words, *head as usize, table, &mut out)?;
     }
     Ok(out)
 }
 
 /// Appends the words of an object, renamed by the table.
-fn push_forwarded(
+fn push_moved(
     words: &[u64],
     head: usize,
-    places: &[u32],
+    table: &[u32],
     out: &mut Vec<u64>,
 ) -> Result<(), AllocError>
     requires fits { Fits words.now head }
-    requires names { All (λ word. word ≤ length places.now) (references_at words.now head) }
-    ensures { OnOk result (out.new.items ≡ out.old.items ++ forwarded words.now places.now head) }
+    requires names { AreNames table.now (references_at words.now head) }
+    ensures { OnOk result (out.new.items ≡ out.old.items ++ moved_by words.now table.now head) }
 {
     out.push(words[head])?;
     for word in references(words, head) {
-        out.push(new_name(places, *word))?;
+        out.push(new_name(table, *word))?;
     }
     out.extend_from_slice(data(words, head))?;
     Ok(())
 }
 
 /// These words, renamed by the table.
-fn new_names(alloc: Global, words: &[u64], places: &[u32]) -> Result<Vec<u64>, AllocError>
-    requires { All (λ word. word ≤ length places.now) words.now }
-    ensures { IfOk result (λ names. names.items ≡ map (new_name places.now) words.now) }
+fn new_names(alloc: Global, words: &[u64], table: &[u32]) -> Result<Vec<u64>, AllocError>
+    requires { AreNames table.now words.now }
+    ensures { IfOk result (λ names. names.items ≡ map (new_name table.now) words.now) }
 {
     words
         .iter()
-        .map(|word| new_name(places, *word))
+        .map(|word| new_name(table, *word))
         .collect(alloc)
 }
 
 /// The word that names an object at its place in the table, and 0 for 0.
 #[inline]
-fn new_name(places: &[u32], word: u64) -> u64
-    requires { word ≤ length places.now }
-    ensures { result ≡ new_name places.now word }
+fn new_name(table: &[u32], word: u64) -> u64
+    requires { word ≤ length table.now }
+    ensures { result ≡ new_name table.now word }
 {
     if word == 0 {
         0
     } else {
-        1 + places[(word - 1) as usize] as u64
+        1 + table[(word - 1) as usize] as u64
     }
+}
+
+/// What the table has at these places.
+fn places_at(alloc: Global, heads: &[u32], table: &[u32]) -> Result<Vec<u32>, AllocError>
+    requires { All (λ head. head < length table.now) heads.now }
+    ensures { IfOk result (λ places. places.items ≡ map (slice_index table.now) heads.now) }
+{
+    heads
+        .iter()
+        .map(|head| table[*head as usize])
+        .collect(alloc)
 }

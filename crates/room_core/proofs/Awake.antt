@@ -29,7 +29,9 @@ pub record Awake (s : Words) (ps : List Phase) : Type 0 where
 differ : true ≡ false → ⊥
 differ e = cc
 
-still : (s s' : Words) (ps : List Phase) (c : ℕ) (p q : Phase) → phase ps c ≡ q → is_keeper q ≡ false → s'.active ≡ s.active → s'.grant ≡ s.grant → s'.done ≡ s.done → Awake s ps → Awake s' (set ps c p)
+still : (s s' : Words) (ps : List Phase) (c : ℕ) (p q : Phase) → phase ps c ≡ q
+    → is_keeper q ≡ false → s'.active ≡ s.active → s'.grant ≡ s.grant → s'.done ≡ s.done
+    → Awake s ps → Awake s' (set ps c p)
 still s s' ps c p q e free ea eg ed k = record {
   why = elim k.why [
     | inl z ↦ inl (ap code_of ea ∙ z)
@@ -38,32 +40,67 @@ still s s' ps c p q e free ea eg ed k = record {
   ];
 }
 
-keyed : (s' : Words) (ps : List Phase) (c : ℕ) (p : Phase) → c < length ps → is_keeper p ≡ true → Awake s' (set ps c p)
-keyed s' ps c p h e = record { why = inr (inr (c, ap is_keeper (get_or-set_same ps c p Out h) ∙ e)) }
+keyed : (s' : Words) (ps : List Phase) (c : ℕ) (p : Phase) → c < length ps → is_keeper p ≡ true
+    → Awake s' (set ps c p)
+keyed s' ps c p h e = record {
+  why = inr (inr (c, ap is_keeper (get_or-set_same ps c p Out h) ∙ e));
+}
 
-opens : (s : Words) (ps' : List Phase) (t : List Item) (room to : ℕ) → get_or s.done room 0 ≡ get_or s.grant room 0 → get_or s.grant room 0 < to → room < length s.grant → Awake (record s { grant = set s.grant room to }) ps'
-opens s ps' t room to shut more lt = record { why = inr (inl (room, (let a = get_or-set_same s.grant room to 0 lt in omega (arith, a, shut, more)))) }
+opens : (s : Words) (ps' : List Phase) (t : List Item) (room to : ℕ)
+    → get_or s.done room 0 ≡ get_or s.grant room 0 → get_or s.grant room 0 < to
+    → room < length s.grant → Awake (record s { grant = set s.grant room to }) ps'
+opens s ps' t room to shut more lt = record {
+  why =
+      inr
+      (inl (room, (let a = get_or-set_same s.grant room to 0 lt in omega (arith, a, shut, more))));
+}
 
 abbrev pub NotLast : Words → Phase → Act → Row → Type 0
-NotLast s p act row = (room ticket turn to : ℕ) (first : Option ℕ) → p ≡ Inside room ticket first turn to → act ≡ Leave → row.1.two ≡ None → get_or s.done room 0 + 1 ≡ to → ⊥
+NotLast s p act row =
+    (room ticket turn to : ℕ) (first : Option ℕ) → p ≡ Inside room ticket first turn to
+    → act ≡ Leave → row.1.two ≡ None → get_or s.done room 0 + 1 ≡ to → ⊥
 
-pub awake_went : (c : ℕ) (s : Words) (ps : List Phase) (t : List Item) (p : Phase) (act : Act) (row : Row) → Went c s p act row → Inv s ps t → c < length ps → phase ps c ≡ p → NotLast s p act row → Awake s ps → Awake (touched s row.1.touch) (set ps c row.0)
+pub awake_went : (c : ℕ) (s : Words) (ps : List Phase) (t : List Item) (p : Phase) (act : Act) (row : Row)
+    → Went c s p act row → Inv s ps t → c < length ps → phase ps c ≡ p → NotLast s p act row
+    → Awake s ps → Awake (touched s row.1.touch) (set ps c row.0)
 awake_went c s ps t p act row (drawn r hr) i h e l k = still s _ ps c _ p e refl refl refl refl k
-awake_went c s ps t p act row (found room ticket first le) i h e l k = still s _ ps c _ p e refl refl refl refl k
-awake_went c s ps t p act row (missed room ticket first le) i h e l k = still s _ ps c _ p e refl refl refl refl k
-awake_went c s ps t p act row (saw_idle room ticket first z) i h e l k = still s _ ps c _ p e refl refl refl refl k
-awake_went c s ps t p act row (saw_busy room ticket first) i h e l k = still s _ ps c _ p e refl refl refl refl k
-awake_went c s ps t p act row (lost room ticket first idle) i h e l k = still s _ ps c _ p e refl refl refl refl k
-awake_went c s ps t p act row (opened room first turn to) i h e l k = let f : Fits s (is_exiting t) (Admitting room 0 first turn to) = fits_at s ps t c (Admitting room 0 first turn to) i e in
-    opens s _ t room to (f.0.keeps.shut room) f.1 (omega (arith, within s.wait room (omega (arith, f.0.more)), i.grants))
-awake_went c s ps t p act row (opened_in room ticket first turn to) i h e l k = let f : Fits s (is_exiting t) (Admitting room (suc ticket) first turn to) = fits_at s ps t c (Admitting room (suc ticket) first turn to) i e in
-    opens s _ t room to (f.0.keeps.shut room) f.1 (omega (arith, within s.wait room (omega (arith, f.0.more)), i.grants))
-awake_went c s ps t p act row (entered room ticket first to) i h e l k = still s _ ps c _ p e refl refl refl refl k
-awake_went c s ps t p act row (rested turn) i h e l k = record { why = inl (code_of_pack turn 0 (omega arith)) }
-awake_went c s ps t p act row (left room ticket first turn to short) i h e l k = let f : Fits s (is_exiting t) (Inside room ticket first turn to) = fits_at s ps t c (Inside room ticket first turn to) i e in
-    let a = admitted_open s ps t c i in let a' : 0 < ticket → ticket ≤ get_or s.grant room 0 → get_or s.done room 0 < get_or s.grant room 0 = rw e at a in let open_now : get_or s.done room 0 < get_or s.grant room 0 = a' f.0.some f.0.granted in
-    let lt : room < length s.done = omega (arith, within s.grant room (omega (arith, open_now)), i.grants, i.dones) in
-    let same = get_or-set_same s.done room (get_or s.done room 0 + 1) 0 lt in let ne : get_or s.done room 0 + 1 ≢ to = l room ticket turn to first refl refl refl in
+awake_went c s ps t p act row (found room ticket first le) i h e l k =
+    still s _ ps c _ p e refl refl refl refl k
+awake_went c s ps t p act row (missed room ticket first le) i h e l k =
+    still s _ ps c _ p e refl refl refl refl k
+awake_went c s ps t p act row (saw_idle room ticket first z) i h e l k =
+    still s _ ps c _ p e refl refl refl refl k
+awake_went c s ps t p act row (saw_busy room ticket first) i h e l k =
+    still s _ ps c _ p e refl refl refl refl k
+awake_went c s ps t p act row (lost room ticket first idle) i h e l k =
+    still s _ ps c _ p e refl refl refl refl k
+awake_went c s ps t p act row (opened room first turn to) i h e l k =
+    let f : Fits s (is_exiting t) (Admitting room 0 first turn to) =
+    fits_at s ps t c (Admitting room 0 first turn to) i e in
+    opens s _ t room to (f.0.keeps.shut room) f.1
+    (omega (arith, within s.wait room (omega (arith, f.0.more)), i.grants))
+awake_went c s ps t p act row (opened_in room ticket first turn to) i h e l k =
+    let f : Fits s (is_exiting t) (Admitting room (suc ticket) first turn to) =
+    fits_at s ps t c (Admitting room (suc ticket) first turn to) i e in
+    opens s _ t room to (f.0.keeps.shut room) f.1
+    (omega (arith, within s.wait room (omega (arith, f.0.more)), i.grants))
+awake_went c s ps t p act row (entered room ticket first to) i h e l k =
+    still s _ ps c _ p e refl refl refl refl k
+awake_went c s ps t p act row (rested turn) i h e l k = record {
+  why = inl (code_of_pack turn 0 (omega arith));
+}
+awake_went c s ps t p act row (left room ticket first turn to short) i h e l k =
+    let f : Fits s (is_exiting t) (Inside room ticket first turn to) =
+    fits_at s ps t c (Inside room ticket first turn to) i e in
+    let a =
+    admitted_open s ps t c i in let a' : 0 < ticket → ticket ≤ get_or s.grant room 0
+    → get_or s.done room 0 < get_or s.grant room 0 = rw e at a in let open_now : get_or s.done
+    room 0 < get_or s.grant room 0 = a' f.0.some f.0.granted in
+    let lt : room < length s.done =
+    omega (arith, within s.grant room (omega (arith, open_now)), i.grants, i.dones) in
+    let same =
+    get_or-set_same s.done room (get_or s.done room 0 + 1) 0 lt in let ne : get_or s.done room 0
+    + 1 ≢ to = l room ticket turn to first refl refl refl in
     record { why = inr (inl (room, omega (arith, same, ne, open_now, f.0.to_is))) }
 awake_went c s ps t p act row went i h e l k = keyed _ ps c _ h refl
 
@@ -74,10 +111,20 @@ some_none r e = cc
 same_row : (a b : Row) → ◌≡◌ {A = Result Row Refused} (Ok a) (Ok b) → a ≡ b
 same_row a b e = cc
 
-pub not_last : (w : World) (c : ℕ) (act : Act) (row : Row) → c < length w.state.phases → row_of w.state c act ≡ Ok row → NotLast w.state.words (phase_of w.state c) act row
-not_last w c act row h e room ticket turn to first at is none full = let b : row_of w.state c Leave ≡ Ok (made w.state.words (leaving_move c room turn to)) = cond-true (ltb c (length w.state.phases)) (acting w.state c (phase_of w.state c) Leave) (Err NoCaller) (lt-ltb c (length w.state.phases) h) ∙ ap (λ (z : Phase). acting w.state c z Leave) at in
-    let same : made w.state.words (leaving_move c room turn to) ≡ row = same_row (made w.state.words (leaving_move c room turn to)) row (sym b ∙ (ap (row_of w.state c) (sym is) ∙ e)) in
-    some_none room (ap (λ (z : Bool). cond z (Some (ExitBegun room)) None) (sym (eq-eqb (get_or w.state.words.done room 0 + 1) to full)) ∙ (ap (λ (z : Row). z.1.two) same ∙ none))
+pub not_last : (w : World) (c : ℕ) (act : Act) (row : Row) → c < length w.state.phases
+    → row_of w.state c act ≡ Ok row → NotLast w.state.words (phase_of w.state c) act row
+not_last w c act row h e room ticket turn to first at is none full =
+    let b : row_of w.state c Leave ≡ Ok (made w.state.words (leaving_move c room turn to)) =
+    cond-true (ltb c (length w.state.phases)) (acting w.state c (phase_of w.state c) Leave)
+    (Err NoCaller) (lt-ltb c (length w.state.phases) h)
+    ∙ ap (λ (z : Phase). acting w.state c z Leave) at in
+    let same : made w.state.words (leaving_move c room turn to) ≡ row =
+    same_row (made w.state.words (leaving_move c room turn to)) row
+    (sym b ∙ (ap (row_of w.state c) (sym is) ∙ e)) in
+    some_none room
+    (ap (λ (z : Bool). cond z (Some (ExitBegun room)) None)
+    (sym (eq-eqb (get_or w.state.words.done room 0 + 1) to full))
+    ∙ (ap (λ (z : Row). z.1.two) same ∙ none))
 
 no_ticket : (b : Bool) → ◌≡◌ {A = ℕ} (cond (b && ltb 0 0) 1 0) 0
 no_ticket true = refl
@@ -86,4 +133,8 @@ no_ticket false = refl
 -- nobody holds a ticket where all are out
 pub none_held : (ps : List Phase) (r : ℕ) → ((d : ℕ) → phase ps d ≡ Out) → holders ps r 0 ≡ 0
 none_held [] r all = refl
-none_held (p ∷ ps) r all = let rest = none_held ps r (λ d. all (suc d)) in let mine : above r 0 p ≡ above r 0 Out = ap (above r 0) (all 0) in let zero_is : above r 0 Out ≡ 0 = no_ticket (eqb 0 r) in let all_of = sum_by-cons (above r 0) p ps in omega (arith, rest, mine, zero_is, all_of)
+none_held (p ∷ ps) r all =
+    let rest = none_held ps r (λ d. all (suc d)) in
+    let mine : above r 0 p ≡ above r 0 Out = ap (above r 0) (all 0) in
+    let zero_is : above r 0 Out ≡ 0 = no_ticket (eqb 0 r) in
+    let all_of = sum_by-cons (above r 0) p ps in omega (arith, rest, mine, zero_is, all_of)

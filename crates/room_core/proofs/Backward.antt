@@ -15,7 +15,8 @@ use Rattle.room_core.specs.Trace.{onto, trace, occupant, last_room, is_closing, 
 
 -- whoever occupies a room occupies that of the last Opened, and no exit code has begun since
 abbrev pub AllInLast : List Item → Type 0
-AllInLast past = (c r : ℕ) → occupant c past ≡ Some r → (last_room past ≡ Some r) × (is_closing past ≡ false)
+AllInLast past =
+    (c r : ℕ) → occupant c past ≡ Some r → (last_room past ≡ Some r) × (is_closing past ≡ false)
 
 -- an Opened doesn't stand between an ExitBegun and the next ExitEnded
 abbrev pub MayCome : Item → List Item → Type 0
@@ -45,12 +46,14 @@ draw_by Leave history old = old
 -- the room and the ticket of the caller's last draw
 abbrev pub last_draw : ℕ → List Moment → Option (ℕ × ℕ)
 last_draw c [] = None
-last_draw c (m ∷ history) = if m.caller == c then draw_by m.act history (last_draw c history) else last_draw c history
+last_draw c (m ∷ history) =
+    if m.caller == c then draw_by m.act history (last_draw c history) else last_draw c history
 
 -- the turn in the caller's first load of `active` after its last draw
 abbrev pub first_in : ℕ → List Moment → Option ℕ
 first_in c [] = None
-first_in c (m ∷ history) = if m.caller == c then first_by m.act m.event.touch (first_in c history) else first_in c history
+first_in c (m ∷ history) =
+    if m.caller == c then first_by m.act m.event.touch (first_in c history) else first_in c history
 
 abbrev pub wait_by : ℕ → Touch → ℕ → ℕ → ℕ
 wait_by r (Load (Wait q) value) now old = if q == r then now else old
@@ -59,7 +62,9 @@ wait_by r _ now old = old
 -- how often room r was drawn before the caller's last load of its wait
 abbrev pub draws_at_load : ℕ → ℕ → List Moment → ℕ
 draws_at_load c r [] = 0
-draws_at_load c r (m ∷ history) = if m.caller == c then wait_by r m.event.touch (draws r history) (draws_at_load c r history) else draws_at_load c r history
+draws_at_load c r (m ∷ history) =
+    if m.caller == c then wait_by r m.event.touch (draws r history) (draws_at_load c r history) else
+    draws_at_load c r history
 
 -- the `to` of the last Opened of room r, or 0
 abbrev pub last_to : ℕ → List Item → ℕ
@@ -90,13 +95,19 @@ IsShut past = (openings past ≡ 0) ⊎ ((is_closing past ≡ true) × (is_exiti
 -- what an item of the caller says about the moments and the items before it
 abbrev pub Lawful : ℕ → List Moment → Item → List Item → Type 0
 Lawful c history (Opened turn r from to) past =
-    (turn ≡ openings past + 1) × (from ≡ last_to r past) × (from < to) × (to ≡ draws_at_load c r history) × IsShut past
+    (turn ≡ openings past + 1) × (from ≡ last_to r past) × (from < to) ×
+    (to ≡ draws_at_load c r history) × IsShut past
 Lawful c history (Entered d r) past =
-    (d ≡ c) × (ticket : ℕ) × (last_draw c history ≡ Some (r, ticket)) × (o : Opening) × (last_opening past ≡ Some o) × (o.room ≡ r) × (o.from < ticket) × (ticket ≤ o.to) × (is_closing past ≡ false)
+    (d ≡ c) × (ticket : ℕ) × (last_draw c history ≡ Some (r, ticket)) × (o : Opening) ×
+    (last_opening past ≡ Some o) × (o.room ≡ r) × (o.from < ticket) × (ticket ≤ o.to) ×
+    (is_closing past ≡ false)
 Lawful c history (Left d) past = d ≡ c
 Lawful c history (ExitBegun r) past =
-    (o : Opening) × (last_opening past ≡ Some o) × (o.room ≡ r) × (is_closing past ≡ false) × (o.from + lefts past ≡ o.to) × (ends_in_left past ≡ true)
-Lawful c history (ExitEnded r) past = (o : Opening) × (last_opening past ≡ Some o) × (o.room ≡ r) × (is_closing past ≡ true) × (is_exiting past ≡ true)
+    (o : Opening) × (last_opening past ≡ Some o) × (o.room ≡ r) × (is_closing past ≡ false) ×
+    (o.from + lefts past ≡ o.to) × (ends_in_left past ≡ true)
+Lawful c history (ExitEnded r) past =
+    (o : Opening) × (last_opening past ≡ Some o) × (o.room ≡ r) × (is_closing past ≡ true) ×
+    (is_exiting past ≡ true)
 
 abbrev pub LawfulAt : ℕ → List Moment → Option Item → List Item → Type 0
 LawfulAt c history None past = Unit {0}
@@ -104,7 +115,8 @@ LawfulAt c history (Some item) past = Lawful c history item past
 
 -- a departure that is not the last of its opening comes alone; else it is followed by the begin of the exit code
 abbrev pub StaysOpen : Option Item → List Item → Type 0
-StaysOpen (Some (Left c)) past = (o : Opening) → last_opening past ≡ Some o → o.from + lefts past + 1 ≡ o.to → ⊥
+StaysOpen (Some (Left c)) past =
+    (o : Opening) → last_opening past ≡ Some o → o.from + lefts past + 1 ≡ o.to → ⊥
 StaysOpen _ past = Unit {0}
 
 -- the two items of one event
@@ -116,23 +128,30 @@ Pairs _ _ past = ⊥
 
 abbrev pub LawfulBack : List Moment → Type 0
 LawfulBack [] = Unit {0}
-LawfulBack (m ∷ history) = LawfulAt m.caller history m.event.one (trace history) × LawfulAt m.caller history m.event.two (onto m.event.one (trace history)) × LawfulBack history × Pairs m.event.one m.event.two (trace history)
+LawfulBack (m ∷ history) =
+    LawfulAt m.caller history m.event.one (trace history) × LawfulAt m.caller history m.event.two
+    (onto m.event.one (trace history)) × LawfulBack history × Pairs m.event.one m.event.two
+    (trace history)
 
 -- an Opened comes within a round of the first look of each caller that it admits
 abbrev pub Prompt : ℕ → List Moment → Option Item → Type 0
 Prompt rooms history (Some (Opened turn r from to)) =
-    (c ticket first : ℕ) → last_draw c history ≡ Some (r, ticket) → from < ticket → ticket ≤ to → first_in c history ≡ Some first → (first ≤ turn) × (turn ≤ first + rooms)
+    (c ticket first : ℕ) → last_draw c history ≡ Some (r, ticket) → from < ticket → ticket ≤ to
+    → first_in c history ≡ Some first → (first ≤ turn) × (turn ≤ first + rooms)
 Prompt rooms history _ = Unit {0}
 
 -- a caller that loads the active word after it was let in sees the turn of the opening that let it in, which is the last one
 abbrev pub SeesItsTurn : ℕ → List Moment → Touch → Type 0
 SeesItsTurn c history (Load Active word) =
-    (r ticket : ℕ) → last_draw c history ≡ Some (r, ticket) → ticket ≤ last_to r (trace history) → (o : Opening) × (last_opening (trace history) ≡ Some o) × Admits o r ticket × (turn_of word ≡ o.turn)
+    (r ticket : ℕ) → last_draw c history ≡ Some (r, ticket) → ticket ≤ last_to r (trace history)
+    → (o : Opening) × (last_opening (trace history) ≡ Some o) × Admits o r ticket ×
+    (turn_of word ≡ o.turn)
 SeesItsTurn c history _ = Unit {0}
 
 -- a caller draws when its last ticket was let in
 abbrev pub UsesUp : ℕ → List Moment → Act → Type 0
-UsesUp c history (Draw q) = (r ticket : ℕ) → last_draw c history ≡ Some (r, ticket) → ticket ≤ last_to r (trace history)
+UsesUp c history (Draw q) =
+    (r ticket : ℕ) → last_draw c history ≡ Some (r, ticket) → ticket ≤ last_to r (trace history)
 UsesUp c history _ = Unit {0}
 
 -- who loads the active word makes a step, and opens no room
@@ -143,4 +162,6 @@ OnlyLooks act one _ = Unit {0}
 
 abbrev pub PromptBack : ℕ → List Moment → Type 0
 PromptBack rooms [] = Unit {0}
-PromptBack rooms (m ∷ history) = Prompt rooms history m.event.one × SeesItsTurn m.caller history m.event.touch × UsesUp m.caller history m.act × OnlyLooks m.act m.event.one m.event.touch × PromptBack rooms history
+PromptBack rooms (m ∷ history) =
+    Prompt rooms history m.event.one × SeesItsTurn m.caller history m.event.touch × UsesUp m.caller
+    history m.act × OnlyLooks m.act m.event.one m.event.touch × PromptBack rooms history

@@ -19,22 +19,30 @@ use Rattle.room_core.proofs.Went.{Went, drawn, found, missed, saw_idle, saw_busy
 use Rattle.room_core.proofs.Due.{ahead, ahead_low, ahead_same, BoundBy, Bounded, DueAt, Named, Due, Conv, conv_at, due_key, due_same, plain_bound, fresh, next_ahead_at, next_further_at, ahead_last_at, ahead_self_at, ahead_less}
 
 -- the others have no key
-pub others_none : (s : Words) (ps : List Phase) (t : List Item) (c : ℕ) (p : Phase) → Inv s ps t → phase ps c ≡ p → is_keeper p ≡ true → (d : ℕ) → d ≢ c → is_keeper (phase ps d) ≡ true → ⊥
+pub others_none : (s : Words) (ps : List Phase) (t : List Item) (c : ℕ) (p : Phase) → Inv s ps t
+    → phase ps c ≡ p → is_keeper p ≡ true → (d : ℕ) → d ≢ c → is_keeper (phase ps d) ≡ true → ⊥
 others_none s ps t c p i e kp d ne kd = ne (i.one d c kd (ap is_keeper e ∙ kp))
 
 -- the key's holder moves
-keeper_moves : (m : ℕ) (s s' : Words) (ps : List Phase) (tr : List Item) (c : ℕ) (old p : Phase) → Inv s ps tr → c < length ps → phase ps c ≡ old → is_keeper old ≡ true → (d : Due m s ps)
+keeper_moves : (m : ℕ) (s s' : Words) (ps : List Phase) (tr : List Item) (c : ℕ) (old p : Phase)
+    → Inv s ps tr → c < length ps → phase ps c ≡ old → is_keeper old ≡ true → (d : Due m s ps)
     → length s'.wait ≡ m → code_of s'.active ≤ m → Conv m s s' old p
     → ((DueAt m s'.active s'.grant p old) → DueAt m s'.active s'.grant p p) → Named m p
     → Due m s' (set ps c p)
 keeper_moves m s s' ps tr c old p i h e ko d rooms code k mine n =
     let same : d.key ≡ old = sym (d.key_is c (ap is_keeper e ∙ ko)) ∙ e in
     let k' : Conv m s s' d.key p = rw same k in
-    due_key m s s' ps tr c p i h d rooms code (others_none s ps tr c old i e ko) (mine (subst (DueAt m s'.active s'.grant p) e (conv_at m s s' ps tr d.key p i d.rooms k' c (d.each c)))) k' n
+    due_key m s s' ps tr c p i h d rooms code (others_none s ps tr c old i e ko)
+    (mine
+    (subst (DueAt m s'.active s'.grant p) e
+    (conv_at m s s' ps tr d.key p i d.rooms k' c (d.each c)))) k' n
 
 -- only the key's phase changes: neither the active word nor a grant
-conv_busy : (m : ℕ) (s : Words) (key key' : Phase) → ((r : ℕ) → get_or s.done r 0 ≡ get_or s.grant r 0)
-    → ((q t f : ℕ) → q < m → t ≤ get_or s.wait q 0 → get_or s.grant q 0 < t → BoundBy m (turn_of s.active) (code_of s.active) q t f key → BoundBy m (turn_of s.active) (code_of s.active) q t f key')
+conv_busy : (m : ℕ) (s : Words) (key key' : Phase)
+    → ((r : ℕ) → get_or s.done r 0 ≡ get_or s.grant r 0)
+    → ((q t f : ℕ) → q < m → t ≤ get_or s.wait q 0 → get_or s.grant q 0 < t
+    → BoundBy m (turn_of s.active) (code_of s.active) q t f key
+    → BoundBy m (turn_of s.active) (code_of s.active) q t f key')
     → Conv m s s key key'
 conv_busy m s key key' shut k q t f hq pos low late b = record {
   seen_before = b.seen_before;
@@ -43,47 +51,75 @@ conv_busy m s key key' shut k q t f hq pos low late b = record {
   admitted = b.admitted;
 }
 
-seen_due : (m active granted : ℕ) (key : Phase) (q t : ℕ) (first : Option ℕ) → code_of active ≤ m → q < m
+seen_due : (m active granted : ℕ) (key : Phase) (q t : ℕ) (first : Option ℕ) → code_of active ≤ m
+    → q < m
     → ((f : ℕ) → first ≡ Some f → Bounded m (turn_of active) (code_of active) granted key q t f)
-    → (f : ℕ) → seen first active ≡ Some f → Bounded m (turn_of active) (code_of active) granted key q t f
+    → (f : ℕ) → seen first active ≡ Some f
+    → Bounded m (turn_of active) (code_of active) granted key q t f
 seen_due m active granted key q t (Some x) c h d f e = d f e
 seen_due m active granted key q t None c h d f e =
     let same : f ≡ turn_of active = cc in
     subst (λ x. Bounded m (turn_of active) (code_of active) granted key q t x) (sym same) (record {
       seen_before = omega arith;
       idle = λ _ _. omega arith;
-      busy = λ pos _. fresh m (turn_of active) (code_of active) q t key (ahead_low m (code_of active) q pos c h).1;
+      busy =
+          λ pos _.
+          fresh m (turn_of active) (code_of active) q t key
+          (ahead_low m (code_of active) q pos c h).1;
       admitted = λ _. omega arith;
     })
 
 -- a step of somebody without the key, who holds the same ticket with the same first turn
-same_moves : (m : ℕ) (s : Words) (done : List ℕ) (ps : List Phase) (c : ℕ) (old p : Phase) → c < length ps → phase ps c ≡ old → (d : Due m s ps)
-    → is_keeper old ≡ false → is_keeper p ≡ false → (DueAt m s.active s.grant d.key old → DueAt m s.active s.grant d.key p) → Named m p
+same_moves : (m : ℕ) (s : Words) (done : List ℕ) (ps : List Phase) (c : ℕ) (old p : Phase)
+    → c < length ps → phase ps c ≡ old → (d : Due m s ps)
+    → is_keeper old ≡ false → is_keeper p ≡ false
+    → (DueAt m s.active s.grant d.key old → DueAt m s.active s.grant d.key p) → Named m p
     → Due m (record { active = s.active; wait = s.wait; grant = s.grant; done = done }) (set ps c p)
-same_moves m s done ps c old p h e d ko kp mine n = due_same m s s.wait done ps c old p h e d d.rooms ko kp (mine (subst (DueAt m s.active s.grant d.key) e (d.each c))) n
+same_moves m s done ps c old p h e d ko kp mine n =
+    due_same m s s.wait done ps c old p h e d d.rooms ko kp
+    (mine (subst (DueAt m s.active s.grant d.key) e (d.each c))) n
 
-pub due_went : (m c : ℕ) (s : Words) (ps : List Phase) (tr : List Item) (p : Phase) (act : Act) (row : Row) → Went c s p act row → Inv s ps tr → c < length ps → phase ps c ≡ p → Due m s ps → Due m (touched s row.1.touch) (set ps c row.0)
+pub due_went : (m c : ℕ) (s : Words) (ps : List Phase) (tr : List Item) (p : Phase) (act : Act) (row : Row)
+    → Went c s p act row → Inv s ps tr → c < length ps → phase ps c ≡ p → Due m s ps
+    → Due m (touched s row.1.touch) (set ps c row.0)
 due_went m c s ps tr p act row (drawn r hr) i h e d =
-    due_same m s (set s.wait r (get_or s.wait r 0 + 1)) s.done ps c Out (Looking r (get_or s.wait r 0 + 1) None) h e d (length-set s.wait r (get_or s.wait r 0 + 1) ∙ d.rooms) refl refl (λ f ef pos. absurd (cc)) tt
-due_went m c s ps tr p act row (found room ticket first le) i h e d = same_moves m s s.done ps c (Looking room ticket first) (Turning room ticket first (get_or s.grant room 0)) h e d refl refl (λ x. x) tt
-due_went m c s ps tr p act row (missed room ticket first le) i h e d = same_moves m s s.done ps c (Looking room ticket first) (Glancing room ticket first) h e d refl refl (λ x. x) tt
+    due_same m s (set s.wait r (get_or s.wait r 0 + 1)) s.done ps c Out
+    (Looking r (get_or s.wait r 0 + 1) None) h e d
+    (length-set s.wait r (get_or s.wait r 0 + 1) ∙ d.rooms) refl refl (λ f ef pos. absurd (cc)) tt
+due_went m c s ps tr p act row (found room ticket first le) i h e d =
+    same_moves m s s.done ps c (Looking room ticket first)
+    (Turning room ticket first (get_or s.grant room 0)) h e d refl refl (λ x. x) tt
+due_went m c s ps tr p act row (missed room ticket first le) i h e d =
+    same_moves m s s.done ps c (Looking room ticket first) (Glancing room ticket first) h e d refl
+    refl (λ x. x) tt
 due_went m c s ps tr p act row (saw_idle room ticket first z) i h e d =
     let w : Waits s room ticket = fits_at s ps tr c (Glancing room ticket first) i e in
-    let small : room < m = omega (arith, within s.wait room (omega (arith, w.some, w.drawn)), d.rooms) in
-    same_moves m s s.done ps c (Glancing room ticket first) (Seizing room ticket (seen first s.active) s.active) h e d refl refl
-    (λ x f ef pos. seen_due m s.active (get_or s.grant room 0) d.key room ticket first d.code small (λ f' e'. x f' e' pos) f ef) tt
+    let small : room < m =
+    omega (arith, within s.wait room (omega (arith, w.some, w.drawn)), d.rooms) in
+    same_moves m s s.done ps c (Glancing room ticket first)
+    (Seizing room ticket (seen first s.active) s.active) h e d refl refl
+    (λ x f ef pos.
+    seen_due m s.active (get_or s.grant room 0) d.key room ticket first d.code small
+    (λ f' e'. x f' e' pos) f ef) tt
 due_went m c s ps tr p act row (saw_busy room ticket first) i h e d =
     let w : Waits s room ticket = fits_at s ps tr c (Glancing room ticket first) i e in
-    let small : room < m = omega (arith, within s.wait room (omega (arith, w.some, w.drawn)), d.rooms) in
-    same_moves m s s.done ps c (Glancing room ticket first) (Looking room ticket (seen first s.active)) h e d refl refl
-    (λ x f ef pos. seen_due m s.active (get_or s.grant room 0) d.key room ticket first d.code small (λ f' e'. x f' e' pos) f ef) tt
+    let small : room < m =
+    omega (arith, within s.wait room (omega (arith, w.some, w.drawn)), d.rooms) in
+    same_moves m s s.done ps c (Glancing room ticket first)
+    (Looking room ticket (seen first s.active)) h e d refl refl
+    (λ x f ef pos.
+    seen_due m s.active (get_or s.grant room 0) d.key room ticket first d.code small
+    (λ f' e'. x f' e' pos) f ef) tt
 due_went m c s ps tr p act row (won room ticket first) i h e d =
-    let f : Fits s (is_exiting tr) (Seizing room ticket first s.active) = fits_at s ps tr c (Seizing room ticket first s.active) i e in
+    let f : Fits s (is_exiting tr) (Seizing room ticket first s.active) =
+    fits_at s ps tr c (Seizing room ticket first s.active) i e in
     let a : ℕ = pack (turn_of s.active + 1) (room + 1) in
     let shut = idle_shut s ps tr i f.1 in
     let small : room < length s.wait = within s.wait room (omega (arith, f.0.some, f.0.drawn)) in
-    let code : code_of a ≡ room + 1 = code_of_pack (turn_of s.active + 1) (room + 1) (omega (arith, small, i.few)) in
-    let turn : turn_of a ≡ turn_of s.active + 1 = turn_of_pack (turn_of s.active + 1) (room + 1) (omega (arith, small, i.few)) in
+    let code : code_of a ≡ room + 1 =
+    code_of_pack (turn_of s.active + 1) (room + 1) (omega (arith, small, i.few)) in
+    let turn : turn_of a ≡ turn_of s.active + 1 =
+    turn_of_pack (turn_of s.active + 1) (room + 1) (omega (arith, small, i.few)) in
     let s' : Words = record s { active = a } in
     let new : Phase = Counting room ticket first (turn_of s.active + 1) in
     let k : Conv m s s' d.key new = λ q t g hq pos low late b. (let l = late shut in let seen_all : turn_of s.active ≤ g = b.idle f.1 l in record {
@@ -92,11 +128,15 @@ due_went m c s ps tr p act row (won room ticket first) i h e d =
       busy = λ _ _. (omega (arith, seen_all, turn, hq), λ lt. omega (arith, seen_all, turn, lt));
       admitted = λ le. absurd (omega (arith, le, l));
     }) in
-    due_key m s s' ps tr c new i h d d.rooms (omega (arith, code, small, d.rooms)) (λ b _ kb. no_keeper s ps tr b i (inr f.1) kb)
+    due_key m s s' ps tr c new i h d d.rooms (omega (arith, code, small, d.rooms))
+    (λ b _ kb. no_keeper s ps tr b i (inr f.1) kb)
     (subst (DueAt m a s.grant new) e (conv_at m s s' ps tr d.key new i d.rooms k c (d.each c))) k tt
-due_went m c s ps tr p act row (lost room ticket first idle) i h e d = same_moves m s s.done ps c (Seizing room ticket first idle) (Looking room ticket first) h e d refl refl (λ x. x) tt
+due_went m c s ps tr p act row (lost room ticket first idle) i h e d =
+    same_moves m s s.done ps c (Seizing room ticket first idle) (Looking room ticket first) h e d
+    refl refl (λ x. x) tt
 due_went m c s ps tr p act row (counted_wait room ticket first turn) i h e d =
-    let f : Opens s (is_exiting tr) room ticket turn = fits_at s ps tr c (Counting room ticket first turn) i e in
+    let f : Opens s (is_exiting tr) room ticket turn =
+    fits_at s ps tr c (Counting room ticket first turn) i e in
     let new : Phase = Admitting room ticket first turn (get_or s.wait room 0) in
     let small : room < m = omega (arith, f.code, d.code) in
     keeper_moves m s s ps tr c (Counting room ticket first turn) new i h e refl d d.rooms d.code
@@ -113,51 +153,88 @@ due_went m c s ps tr p act row (opened room first turn to) i h e d =
     let old : Phase = Admitting room 0 first turn to in
     let new : Phase = Out in
     let f : Fits s (is_exiting tr) old = fits_at s ps tr c old i e in
-    let within_grants : room < length s.grant = omega (arith, within s.wait room (omega (arith, f.0.more)), i.grants) in
+    let within_grants : room < length s.grant =
+    omega (arith, within s.wait room (omega (arith, f.0.more)), i.grants) in
     let small : room < m = omega (arith, within_grants, i.grants, d.rooms) in
     let s' : Words = record s { grant = set s.grant room to } in
-    let here : get_or (set s.grant room to) room 0 ≡ to = get_or-set_same s.grant room to 0 within_grants in
+    let here : get_or (set s.grant room to) room 0 ≡ to =
+    get_or-set_same s.grant room to 0 within_grants in
     let busy : 0 < code_of s.active = f.0.keeps.busy in
     let k : Conv m s s' old new = λ q t g hq pos low late b. (let l = late f.0.keeps.shut in let x = b.busy busy l in elim (cases_eq q room) [
       | inl same ↦ (let now : get_or (set s.grant room to) q 0 ≡ to = ap (λ v. get_or (set s.grant room to) v 0) same ∙ here in
           record { seen_before = b.seen_before; idle = λ z. absurd (omega (arith, z, busy)); busy = λ _ l'. x.2 (omega (arith, l', now)); admitted = λ _. x.0 })
       | inr other ↦ (let now : get_or (set s.grant room to) q 0 ≡ get_or s.grant q 0 = get_or-set_other s.grant room q to 0 other in
-          let near : ahead m (code_of s.active) q < m = elim (cases_lt (ahead m (code_of s.active) q) m) [ inl n ↦ n | inr far ↦ absurd (other (ahead_last_at m (code_of s.active) room q f.0.code small hq far)) ] in
+          let near : ahead m (code_of s.active) q < m =
+          elim (cases_lt (ahead m (code_of s.active) q) m)
+          [ inl n ↦ n | inr far ↦ absurd (other (ahead_last_at m (code_of s.active) room q f.0.code small hq far)) ] in
           record { seen_before = b.seen_before; idle = λ z. absurd (omega (arith, z, busy)); busy = λ _ _. x.1 near; admitted = λ le. absurd (omega (arith, le, now, l)) })
     ]) in
-    keeper_moves m s s' ps tr c old new i h e refl d d.rooms d.code k (λ _ f' ef pos. absurd (cc)) tt
+    keeper_moves m s s' ps tr c old new i h e refl d d.rooms d.code k (λ _ f' ef pos. absurd (cc))
+    tt
 due_went m c s ps tr p act row (opened_in room ticket first turn to) i h e d =
     let old : Phase = Admitting room (suc ticket) first turn to in
     let new : Phase = Inside room (suc ticket) first turn to in
     let f : Fits s (is_exiting tr) old = fits_at s ps tr c old i e in
-    let within_grants : room < length s.grant = omega (arith, within s.wait room (omega (arith, f.0.more)), i.grants) in
+    let within_grants : room < length s.grant =
+    omega (arith, within s.wait room (omega (arith, f.0.more)), i.grants) in
     let small : room < m = omega (arith, within_grants, i.grants, d.rooms) in
     let s' : Words = record s { grant = set s.grant room to } in
-    let here : get_or (set s.grant room to) room 0 ≡ to = get_or-set_same s.grant room to 0 within_grants in
+    let here : get_or (set s.grant room to) room 0 ≡ to =
+    get_or-set_same s.grant room to 0 within_grants in
     let busy : 0 < code_of s.active = f.0.keeps.busy in
     let k : Conv m s s' old new = λ q t g hq pos low late b. (let l = late f.0.keeps.shut in let x = b.busy busy l in elim (cases_eq q room) [
       | inl same ↦ (let now : get_or (set s.grant room to) q 0 ≡ to = ap (λ v. get_or (set s.grant room to) v 0) same ∙ here in
           record { seen_before = b.seen_before; idle = λ z. absurd (omega (arith, z, busy)); busy = λ _ l'. x.2 (omega (arith, l', now)); admitted = λ _. x.0 })
       | inr other ↦ (let now : get_or (set s.grant room to) q 0 ≡ get_or s.grant q 0 = get_or-set_other s.grant room q to 0 other in
-          let near : ahead m (code_of s.active) q < m = elim (cases_lt (ahead m (code_of s.active) q) m) [ inl n ↦ n | inr far ↦ absurd (other (ahead_last_at m (code_of s.active) room q f.0.code small hq far)) ] in
+          let near : ahead m (code_of s.active) q < m =
+          elim (cases_lt (ahead m (code_of s.active) q) m)
+          [ inl n ↦ n | inr far ↦ absurd (other (ahead_last_at m (code_of s.active) room q f.0.code small hq far)) ] in
           record { seen_before = b.seen_before; idle = λ z. absurd (omega (arith, z, busy)); busy = λ _ _. x.1 near; admitted = λ le. absurd (omega (arith, le, now, l)) })
     ]) in
     keeper_moves m s s' ps tr c old new i h e refl d d.rooms d.code k (λ x. x) tt
 due_went m c s ps tr p act row (entered room ticket first to) i h e d =
     let w : Admitted s room ticket to = fits_at s ps tr c (Turning room ticket first to) i e in
-    let small : room < m = omega (arith, within s.wait room (omega (arith, w.some, w.granted, i.granted room)), d.rooms) in
-    same_moves m s s.done ps c (Turning room ticket first to) (Inside room ticket (seen first s.active) (turn_of s.active) to) h e d refl refl
-    (λ x f ef pos. seen_due m s.active (get_or s.grant room 0) d.key room ticket first d.code small (λ f' e'. x f' e' pos) f ef) tt
-due_went m c s ps tr p act row (left room ticket first turn to short) i h e d = same_moves m s (set s.done room (get_or s.done room 0 + 1)) ps c (Inside room ticket first turn to) Out h e d refl refl (λ _ f ef pos. absurd (cc)) tt
+    let small : room < m =
+    omega
+    (arith, within s.wait room (omega (arith, w.some, w.granted, i.granted room)), d.rooms) in
+    same_moves m s s.done ps c (Turning room ticket first to)
+    (Inside room ticket (seen first s.active) (turn_of s.active) to) h e d refl refl
+    (λ x f ef pos.
+    seen_due m s.active (get_or s.grant room 0) d.key room ticket first d.code small
+    (λ f' e'. x f' e' pos) f ef) tt
+due_went m c s ps tr p act row (left room ticket first turn to short) i h e d =
+    same_moves m s (set s.done room (get_or s.done room 0 + 1)) ps c
+    (Inside room ticket first turn to) Out h e d refl refl (λ _ f ef pos. absurd (cc)) tt
 due_went m c s ps tr p act row (left_last room ticket first turn to full) i h e d =
-    let f : Fits s (is_exiting tr) (Inside room ticket first turn to) = fits_at s ps tr c (Inside room ticket first turn to) i e in
-    let opened_now : get_or s.done room 0 < get_or s.grant room 0 = (let a = admitted_open s ps tr c i in let a' : 0 < ticket → ticket ≤ get_or s.grant room 0 → get_or s.done room 0 < get_or s.grant room 0 = rw e at a in a' f.0.some f.0.granted) in
-    let plain : is_keeper d.key ≡ false = is_false (is_keeper d.key) (λ kk. let w = d.held kk in no_keeper s ps tr w.0 i (inl (room, opened_now)) (ap is_keeper w.1 ∙ kk)) in
-    due_key m s (record s { done = set s.done room (get_or s.done room 0 + 1) }) ps tr c (Exiting room turn) i h d d.rooms d.code (λ b _ kb. no_keeper s ps tr b i (inl (room, opened_now)) kb)
+    let f : Fits s (is_exiting tr) (Inside room ticket first turn to) =
+    fits_at s ps tr c (Inside room ticket first turn to) i e in
+    let opened_now : get_or s.done room 0 < get_or s.grant room 0 =
+    (let a = admitted_open s ps tr c i in
+    let a' : 0 < ticket → ticket ≤ get_or s.grant room 0
+    → get_or s.done room 0 < get_or s.grant room 0 =
+    rw e at a in
+    a' f.0.some f.0.granted) in
+    let plain : is_keeper d.key ≡ false =
+    is_false (is_keeper d.key)
+    (λ kk.
+    let w = d.held kk in
+    no_keeper s ps tr w.0 i (inl (room, opened_now)) (ap is_keeper w.1 ∙ kk)) in
+    due_key m s (record s { done = set s.done room (get_or s.done room 0 + 1) }) ps tr c
+    (Exiting room turn) i h d d.rooms d.code
+    (λ b _ kb. no_keeper s ps tr b i (inl (room, opened_now)) kb)
     (λ _ ef. absurd (cc))
-    (λ q t g hq pos low late b. record { seen_before = b.seen_before; idle = b.idle; busy = λ cb l. plain_bound m (turn_of s.active) (code_of s.active) q t g d.key plain (b.busy cb l); admitted = b.admitted }) tt
+    (λ q t g hq pos low late b.
+    record {
+      seen_before = b.seen_before;
+      idle = b.idle;
+      busy =
+          λ cb l.
+          plain_bound m (turn_of s.active) (code_of s.active) q t g d.key plain (b.busy cb l);
+      admitted = b.admitted;
+    }) tt
 due_went m c s ps tr p act row (exited room turn) i h e d =
-    let f : Fits s (is_exiting tr) (Exiting room turn) = fits_at s ps tr c (Exiting room turn) i e in
+    let f : Fits s (is_exiting tr) (Exiting room turn) =
+    fits_at s ps tr c (Exiting room turn) i e in
     let k = next_room s room in
     let new : Phase = Peering room turn k (get_or s.wait k 0) in
     let small : room < m = omega (arith, f.1, d.code) in
@@ -165,19 +242,28 @@ due_went m c s ps tr p act row (exited room turn) i h e d =
     keeper_moves m s s ps tr c (Exiting room turn) new i h e refl d d.rooms d.code
     (conv_busy m s (Exiting room turn) new f.0.shut (λ q t g hq low l b. (
       b,
-      (λ lt. absurd (omega (arith, lt, nx.1, (ahead_low m (code_of s.active) q f.0.busy d.code hq).0))),
-      (λ same lt. absurd (let eq : q ≡ k = ahead_same m (code_of s.active) q k f.0.busy d.code hq nx.0 same in let low' : t ≤ get_or s.wait k 0 = rw eq at low in omega (arith, low', lt))),
+      (λ lt.
+          absurd (omega (arith, lt, nx.1, (ahead_low m (code_of s.active) q f.0.busy d.code hq).0))),
+      (λ same lt.
+          absurd
+          (let eq : q ≡ k = ahead_same m (code_of s.active) q k f.0.busy d.code hq nx.0 same in
+          let low' : t ≤ get_or s.wait k 0 = rw eq at low in omega (arith, low', lt))),
     )))
     (λ _ f' ef. absurd (cc)) nx.0
 due_went m c s ps tr p act row (chose room turn k w lt) i h e d =
     let f = fits_at s ps tr c (Peering room turn k w) i e in
-    keeper_moves m s s ps tr c (Peering room turn k w) (Passing turn (Some k)) i h e refl d d.rooms d.code
-    (conv_busy m s (Peering room turn k w) (Passing turn (Some k)) f.0.shut (λ q t f' hq low l b. (b.0, b.1))) (λ _ f' ef pos. absurd (cc)) tt
+    keeper_moves m s s ps tr c (Peering room turn k w) (Passing turn (Some k)) i h e refl d d.rooms
+    d.code
+    (conv_busy m s (Peering room turn k w) (Passing turn (Some k)) f.0.shut
+    (λ q t f' hq low l b. (b.0, b.1))) (λ _ f' ef pos. absurd (cc)) tt
 due_went m c s ps tr p act row (ended room turn w le) i h e d =
-    let f : Fits s (is_exiting tr) (Peering room turn room w) = fits_at s ps tr c (Peering room turn room w) i e in
+    let f : Fits s (is_exiting tr) (Peering room turn room w) =
+    fits_at s ps tr c (Peering room turn room w) i e in
     let small : room < m = omega (arith, f.1, d.code) in
-    let self : ahead m (code_of s.active) room ≡ m = ahead_self_at m (code_of s.active) room f.1 small in
-    keeper_moves m s s ps tr c (Peering room turn room w) (Passing turn None) i h e refl d d.rooms d.code
+    let self : ahead m (code_of s.active) room ≡ m =
+    ahead_self_at m (code_of s.active) room f.1 small in
+    keeper_moves m s s ps tr c (Peering room turn room w) (Passing turn None) i h e refl d d.rooms
+    d.code
     (conv_busy m s (Peering room turn room w) (Passing turn None) f.0.shut (λ q t g hq low l b. elim (cases_lt (ahead m (code_of s.active) q) m) [
       | inl near ↦ b.1 (omega (arith, near, self))
       | inr far ↦ (let same : q ≡ room = ahead_last_at m (code_of s.active) room q f.1 small hq far in let l' : get_or s.grant room 0 < t = rw same at l in
@@ -185,11 +271,13 @@ due_went m c s ps tr p act row (ended room turn w le) i h e d =
     ]))
     (λ _ f' ef. absurd (cc)) tt
 due_went m c s ps tr p act row (went_on room turn k w le ne) i h e d =
-    let f : Fits s (is_exiting tr) (Peering room turn k w) = fits_at s ps tr c (Peering room turn k w) i e in
+    let f : Fits s (is_exiting tr) (Peering room turn k w) =
+    fits_at s ps tr c (Peering room turn k w) i e in
     let new : Phase = Scanning room turn (next_room s k) in
     let small : room < m = omega (arith, f.1, d.code) in
     let small_k : k < m = subst (Named m) e (d.named c) in
-    let nx = next_further_at m (length s.wait) (code_of s.active) room k d.rooms f.1 small small_k ne in
+    let nx =
+    next_further_at m (length s.wait) (code_of s.active) room k d.rooms f.1 small small_k ne in
     keeper_moves m s s ps tr c (Peering room turn k w) new i h e refl d d.rooms d.code
     (conv_busy m s (Peering room turn k w) new f.0.shut (λ q t g hq low l b. (
       b.0,
@@ -200,27 +288,37 @@ due_went m c s ps tr p act row (went_on room turn k w le ne) i h e d =
     )))
     (λ _ f' ef. absurd (cc)) nx.0
 due_went m c s ps tr p act row (scanned room turn k) i h e d =
-    let f : Fits s (is_exiting tr) (Scanning room turn k) = fits_at s ps tr c (Scanning room turn k) i e in
+    let f : Fits s (is_exiting tr) (Scanning room turn k) =
+    fits_at s ps tr c (Scanning room turn k) i e in
     let new : Phase = Peering room turn k (get_or s.wait k 0) in
     let small_k : k < m = subst (Named m) e (d.named c) in
     keeper_moves m s s ps tr c (Scanning room turn k) new i h e refl d d.rooms d.code
     (conv_busy m s (Scanning room turn k) new f.0.shut (λ q t g hq low l b. (
       b.0,
       b.1,
-      (λ same lt. absurd (let eq : q ≡ k = ahead_same m (code_of s.active) q k f.0.busy d.code hq small_k same in let low' : t ≤ get_or s.wait k 0 = rw eq at low in omega (arith, low', lt))),
+      (λ same lt.
+          absurd
+          (let eq : q ≡ k = ahead_same m (code_of s.active) q k f.0.busy d.code hq small_k same in
+          let low' : t ≤ get_or s.wait k 0 = rw eq at low in omega (arith, low', lt))),
     )))
     (λ _ f' ef. absurd (cc)) small_k
 due_went m c s ps tr p act row (passed turn k) i h e d =
-    let f : Fits s (is_exiting tr) (Passing turn (Some k)) = fits_at s ps tr c (Passing turn (Some k)) i e in
+    let f : Fits s (is_exiting tr) (Passing turn (Some k)) =
+    fits_at s ps tr c (Passing turn (Some k)) i e in
     let a : ℕ = pack (turn + 1) (k + 1) in
     let small : k < length s.wait = within s.wait k (omega (arith, f.1)) in
-    let code : code_of a ≡ suc k = omega (arith, code_of_pack (turn + 1) (k + 1) (omega (arith, small, i.few))) in
-    let turn_is : turn_of a ≡ turn_of s.active + 1 = omega (arith, turn_of_pack (turn + 1) (k + 1) (omega (arith, small, i.few)), f.0.turn_is) in
+    let code : code_of a ≡ suc k =
+    omega (arith, code_of_pack (turn + 1) (k + 1) (omega (arith, small, i.few))) in
+    let turn_is : turn_of a ≡ turn_of s.active + 1 =
+    omega (arith, turn_of_pack (turn + 1) (k + 1) (omega (arith, small, i.few)), f.0.turn_is) in
     let small_k : k < m = omega (arith, small, d.rooms) in
     let new : Phase = Counting k 0 None (turn + 1) in
-    keeper_moves m s (record s { active = a }) ps tr c (Passing turn (Some k)) new i h e refl d d.rooms (omega (arith, code, small_k))
+    keeper_moves m s (record s { active = a }) ps tr c (Passing turn (Some k)) new i h e refl d
+    d.rooms (omega (arith, code, small_k))
     (λ q t g hq pos low late b. let l = late f.0.shut in let x = b.busy f.0.busy l in
-    let lowq = ahead_low m (code_of s.active) q f.0.busy d.code hq in let lowk = ahead_low m (code_of s.active) k f.0.busy d.code small_k in
+    let lowq =
+    ahead_low m (code_of s.active) q f.0.busy d.code hq in let lowk = ahead_low m
+    (code_of s.active) k f.0.busy d.code small_k in
     record {
       seen_before = omega (arith, b.seen_before, turn_is);
       idle = λ z. absurd (omega (arith, z, code));
@@ -235,11 +333,14 @@ due_went m c s ps tr p act row (passed turn k) i h e d =
     })
     (λ _ f' ef. absurd (cc)) tt
 due_went m c s ps tr p act row (rested turn) i h e d =
-    let f : Fits s (is_exiting tr) (Passing turn None) = fits_at s ps tr c (Passing turn None) i e in
+    let f : Fits s (is_exiting tr) (Passing turn None) =
+    fits_at s ps tr c (Passing turn None) i e in
     let a : ℕ = pack turn 0 in
     let code : code_of a ≡ 0 = code_of_pack turn 0 (omega arith) in
-    let turn_is : turn_of a ≡ turn_of s.active = omega (arith, turn_of_pack turn 0 (omega arith), f.0.turn_is) in
-    keeper_moves m s (record s { active = a }) ps tr c (Passing turn None) Out i h e refl d d.rooms (omega (arith, code))
+    let turn_is : turn_of a ≡ turn_of s.active =
+    omega (arith, turn_of_pack turn 0 (omega arith), f.0.turn_is) in
+    keeper_moves m s (record s { active = a }) ps tr c (Passing turn None) Out i h e refl d d.rooms
+    (omega (arith, code))
     (λ q t g hq pos low late b. let l = late f.0.shut in record {
       seen_before = omega (arith, b.seen_before, turn_is);
       idle = λ _ _. omega (arith, turn_is, b.busy f.0.busy l);
@@ -249,7 +350,9 @@ due_went m c s ps tr p act row (rested turn) i h e d =
     (λ _ f' ef. absurd (cc)) tt
 
 -- whoever is inside saw a turn first that is at most m before
-pub inside_due : (m : ℕ) (s : Words) (now : Bool) (p key : Phase) → Fits s now p → DueAt m s.active s.grant key p → (room ticket : ℕ) (f turn to : ℕ) → p ≡ Inside room ticket (Some f) turn to → (f ≤ turn) × (turn ≤ f + m)
+pub inside_due : (m : ℕ) (s : Words) (now : Bool) (p key : Phase) → Fits s now p
+    → DueAt m s.active s.grant key p → (room ticket : ℕ) (f turn to : ℕ)
+    → p ≡ Inside room ticket (Some f) turn to → (f ≤ turn) × (turn ≤ f + m)
 inside_due m s now (Inside room' ticket' first' turn' to') key x d room ticket f turn to e =
     let ef : first' ≡ Some f = cc in
     let et : turn' ≡ turn = cc in

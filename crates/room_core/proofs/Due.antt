@@ -27,20 +27,28 @@ first_of _ = None
 pub ahead : ℕ → ℕ → ℕ → ℕ
 ahead m code q = cond (leb code q) (q + 1 - code) (q + 1 + m - code)
 
-pub ahead_is : (m code q : ℕ) → code ≤ m → (code ≤ q → ahead m code q + code ≡ q + 1) × (q < code → ahead m code q + code ≡ q + 1 + m)
+pub ahead_is : (m code q : ℕ) → code ≤ m
+    → (code ≤ q → ahead m code q + code ≡ q + 1) × (q < code → ahead m code q + code ≡ q + 1 + m)
 unfolding ahead
 ahead_is m code q h =
-    cond_both (leb code q) (q + 1 - code) (q + 1 + m - code) (λ v. (code ≤ q → v + code ≡ q + 1) × (q < code → v + code ≡ q + 1 + m))
+    cond_both (leb code q) (q + 1 - code) (q + 1 + m - code)
+    (λ v. (code ≤ q → v + code ≡ q + 1) × (q < code → v + code ≡ q + 1 + m))
     (λ e. (λ l. omega (arith, leb-true code q e), λ l. absurd (omega (arith, leb-true code q e))))
     (λ e. (λ l. absurd (omega (arith, leb-false code q e)), λ l. omega (arith, leb-false code q e)))
 
 abbrev pub BoundBy : ℕ → ℕ → ℕ → ℕ → ℕ → ℕ → Phase → Type 0
-BoundBy m turn code q t f (Counting room ticket first turn') = (turn ≤ f + m) × (ahead m code q < m → turn + ahead m code q ≤ f + m)
-BoundBy m turn code q t f (Admitting room ticket first turn' to) = (turn ≤ f + m) × (ahead m code q < m → turn + ahead m code q ≤ f + m) × (to < t → turn + ahead m code q ≤ f + m)
+BoundBy m turn code q t f (Counting room ticket first turn') =
+    (turn ≤ f + m) × (ahead m code q < m → turn + ahead m code q ≤ f + m)
+BoundBy m turn code q t f (Admitting room ticket first turn' to) =
+    (turn ≤ f + m) × (ahead m code q < m → turn + ahead m code q ≤ f + m) ×
+    (to < t → turn + ahead m code q ≤ f + m)
 BoundBy m turn code q t f (Peering room turn' k w) =
-    (turn + ahead m code q ≤ f + m) × (ahead m code q < ahead m code k → turn ≤ f) × (ahead m code q ≡ ahead m code k → w < t → turn ≤ f)
-BoundBy m turn code q t f (Scanning room turn' k) = (turn + ahead m code q ≤ f + m) × (ahead m code q < ahead m code k → turn ≤ f)
-BoundBy m turn code q t f (Passing turn' (Some k)) = (turn + ahead m code q ≤ f + m) × (ahead m code q < ahead m code k → turn ≤ f)
+    (turn + ahead m code q ≤ f + m) × (ahead m code q < ahead m code k → turn ≤ f) ×
+    (ahead m code q ≡ ahead m code k → w < t → turn ≤ f)
+BoundBy m turn code q t f (Scanning room turn' k) =
+    (turn + ahead m code q ≤ f + m) × (ahead m code q < ahead m code k → turn ≤ f)
+BoundBy m turn code q t f (Passing turn' (Some k)) =
+    (turn + ahead m code q ≤ f + m) × (ahead m code q < ahead m code k → turn ≤ f)
 BoundBy m turn code q t f (Passing turn' None) = turn ≤ f
 BoundBy m turn code q t f _ = turn + ahead m code q ≤ f + m
 
@@ -53,7 +61,9 @@ pub record Bounded (m turn code granted : ℕ) (key : Phase) (q t f : ℕ) : Typ
 
 abbrev pub DueAt : ℕ → ℕ → List ℕ → Phase → Phase → Type 0
 DueAt m active grant key p =
-    (f : ℕ) → first_of p ≡ Some f → 0 < ticket_of p → Bounded m (turn_of active) (code_of active) (get_or grant (room_of p) 0) key (room_of p) (ticket_of p) f
+    (f : ℕ) → first_of p ≡ Some f → 0 < ticket_of p
+    → Bounded m (turn_of active) (code_of active) (get_or grant (room_of p) 0) key (room_of p)
+    (ticket_of p) f
 
 -- the room that a scan has come to exists
 abbrev pub Named : ℕ → Phase → Type 0
@@ -70,7 +80,9 @@ pub record Due (m : ℕ) (s : Words) (ps : List Phase) : Type 0 where
   pub each : (d : ℕ) → DueAt m s.active s.grant key (phase ps d)
   pub named : (d : ℕ) → Named m (phase ps d)
 
-pub ticket_drawn : (s : Words) (now : Bool) (p : Phase) → ((r : ℕ) → get_or s.grant r 0 ≤ get_or s.wait r 0) → Fits s now p → 0 < ticket_of p → ticket_of p ≤ get_or s.wait (room_of p) 0
+pub ticket_drawn : (s : Words) (now : Bool) (p : Phase)
+    → ((r : ℕ) → get_or s.grant r 0 ≤ get_or s.wait r 0) → Fits s now p → 0 < ticket_of p
+    → ticket_of p ≤ get_or s.wait (room_of p) 0
 ticket_drawn s now (Looking room ticket first) g f h = f.drawn
 ticket_drawn s now (Glancing room ticket first) g f h = f.drawn
 ticket_drawn s now (Seizing room ticket first idle) g f h = f.0.drawn
@@ -83,16 +95,23 @@ ticket_drawn s now _ g f h = absurd (omega arith)
 -- what a step does to the bound of each ticket
 abbrev pub Conv : ℕ → Words → Words → Phase → Phase → Type 0
 Conv m s s' key key' =
-    (q t f : ℕ) → q < m → 0 < t → t ≤ get_or s.wait q 0 → (((r : ℕ) → get_or s.done r 0 ≡ get_or s.grant r 0) → get_or s.grant q 0 < t)
-    → Bounded m (turn_of s.active) (code_of s.active) (get_or s.grant q 0) key q t f → Bounded m (turn_of s'.active) (code_of s'.active) (get_or s'.grant q 0) key' q t f
+    (q t f : ℕ) → q < m → 0 < t → t ≤ get_or s.wait q 0
+    → (((r : ℕ) → get_or s.done r 0 ≡ get_or s.grant r 0) → get_or s.grant q 0 < t)
+    → Bounded m (turn_of s.active) (code_of s.active) (get_or s.grant q 0) key q t f
+    → Bounded m (turn_of s'.active) (code_of s'.active) (get_or s'.grant q 0) key' q t f
 
-pub conv_at : (m : ℕ) (s s' : Words) (ps : List Phase) (tr : List Item) (key key' : Phase) → Inv s ps tr → length s.wait ≡ m → Conv m s s' key key' → (d : ℕ) → DueAt m s.active s.grant key (phase ps d) → DueAt m s'.active s'.grant key' (phase ps d)
+pub conv_at : (m : ℕ) (s s' : Words) (ps : List Phase) (tr : List Item) (key key' : Phase)
+    → Inv s ps tr → length s.wait ≡ m → Conv m s s' key key' → (d : ℕ)
+    → DueAt m s.active s.grant key (phase ps d) → DueAt m s'.active s'.grant key' (phase ps d)
 conv_at m s s' ps tr key key' i e k d due f ef pos =
     let low = ticket_drawn s (is_exiting tr) (phase ps d) i.granted (i.each d) pos in
-    k (room_of (phase ps d)) (ticket_of (phase ps d)) f (omega (arith, within s.wait (room_of (phase ps d)) (omega (arith, low, pos)), e)) pos low (λ shut. late s ps tr i shut d pos) (due f ef pos)
+    k (room_of (phase ps d)) (ticket_of (phase ps d)) f
+    (omega (arith, within s.wait (room_of (phase ps d)) (omega (arith, low, pos)), e)) pos low
+    (λ shut. late s ps tr i shut d pos) (due f ef pos)
 
 -- the key passes to c's new phase, or is given up
-pub due_key : (m : ℕ) (s s' : Words) (ps : List Phase) (tr : List Item) (c : ℕ) (p : Phase) → Inv s ps tr → c < length ps → (d : Due m s ps)
+pub due_key : (m : ℕ) (s s' : Words) (ps : List Phase) (tr : List Item) (c : ℕ) (p : Phase)
+    → Inv s ps tr → c < length ps → (d : Due m s ps)
     → length s'.wait ≡ m → code_of s'.active ≤ m
     → ((b : ℕ) → b ≢ c → is_keeper (phase ps b) ≡ true → ⊥)
     → DueAt m s'.active s'.grant p p → Conv m s s' d.key p → Named m p
@@ -102,27 +121,45 @@ due_key m s s' ps tr c p i h d rooms code none mine k n = record {
   rooms = rooms;
   code = code;
   key = p;
-  key_is = each_set (λ b q. is_keeper q ≡ true → q ≡ p) ps c p Out h (λ _. refl) (λ b ne kb. absurd (none b ne kb));
+  key_is =
+      each_set (λ b q. is_keeper q ≡ true → q ≡ p) ps c p Out h (λ _. refl)
+      (λ b ne kb. absurd (none b ne kb));
   held = λ _. (c, get_or-set_same ps c p Out h);
-  each = each_set (λ _ q. DueAt m s'.active s'.grant p q) ps c p Out h mine (λ b _. conv_at m s s' ps tr d.key p i d.rooms k b (d.each b));
+  each =
+      each_set (λ _ q. DueAt m s'.active s'.grant p q) ps c p Out h mine
+      (λ b _. conv_at m s s' ps tr d.key p i d.rooms k b (d.each b));
 }
 
 -- somebody moves who hasn't the key, and leaves the active word and the grants
-pub due_same : (m : ℕ) (s : Words) (wait done : List ℕ) (ps : List Phase) (c : ℕ) (old p : Phase) → c < length ps → phase ps c ≡ old → (d : Due m s ps)
-    → length wait ≡ m → is_keeper old ≡ false → is_keeper p ≡ false → DueAt m s.active s.grant d.key p → Named m p
+pub due_same : (m : ℕ) (s : Words) (wait done : List ℕ) (ps : List Phase) (c : ℕ) (old p : Phase)
+    → c < length ps → phase ps c ≡ old → (d : Due m s ps)
+    → length wait ≡ m → is_keeper old ≡ false → is_keeper p ≡ false
+    → DueAt m s.active s.grant d.key p → Named m p
     → Due m (record { active = s.active; wait = wait; grant = s.grant; done = done }) (set ps c p)
 due_same m s wait done ps c old p h e d rooms ko kp mine n = record {
   named = each_set (λ _ q. Named m q) ps c p Out h n (λ b _. d.named b);
   rooms = rooms;
   code = d.code;
   key = d.key;
-  key_is = each_set (λ b q. is_keeper q ≡ true → q ≡ d.key) ps c p Out h (λ kq. absurd (cc)) (λ b _. d.key_is b);
-  held = λ kk. let w = d.held kk in
-      (w.0, get_or-set_other ps c w.0 p Out (λ same. absurd (let a : is_keeper (phase ps w.0) ≡ true = ap is_keeper w.1 ∙ kk in let b : is_keeper (phase ps w.0) ≡ false = ap (λ x. is_keeper (phase ps x)) same ∙ ap is_keeper e ∙ ko in cc)) ∙ w.1);
+  key_is =
+      each_set (λ b q. is_keeper q ≡ true → q ≡ d.key) ps c p Out h (λ kq. absurd (cc))
+      (λ b _. d.key_is b);
+  held = λ kk. let w = d.held kk in (
+    w.0,
+    get_or-set_other ps c w.0 p Out
+        (λ same.
+        absurd
+        (let a : is_keeper (phase ps w.0) ≡ true = ap is_keeper w.1 ∙ kk in
+        let b : is_keeper (phase ps w.0) ≡ false =
+        ap (λ x. is_keeper (phase ps x)) same ∙ ap is_keeper e ∙ ko in
+        cc))
+        ∙ w.1,
+  );
   each = each_set (λ _ q. DueAt m s.active s.grant d.key q) ps c p Out h mine (λ b _. d.each b);
 }
 
-pub plain_bound : (m turn code q t f : ℕ) (key : Phase) → is_keeper key ≡ false → BoundBy m turn code q t f key → turn + ahead m code q ≤ f + m
+pub plain_bound : (m turn code q t f : ℕ) (key : Phase) → is_keeper key ≡ false
+    → BoundBy m turn code q t f key → turn + ahead m code q ≤ f + m
 plain_bound m turn code q t f Out e b = b
 plain_bound m turn code q t f (Looking _ _ _) e b = b
 plain_bound m turn code q t f (Glancing _ _ _) e b = b
@@ -132,7 +169,8 @@ plain_bound m turn code q t f (Inside _ _ _ _ _) e b = b
 plain_bound m turn code q t f _ e b = absurd (cc)
 
 -- a first look at this very turn is bounded whatever the key's holder has passed
-pub fresh : (m turn code q t : ℕ) (key : Phase) → ahead m code q ≤ m → BoundBy m turn code q t turn key
+pub fresh : (m turn code q t : ℕ) (key : Phase) → ahead m code q ≤ m
+    → BoundBy m turn code q t turn key
 fresh m turn code q t (Counting _ _ _ _) h = (omega arith, λ _. omega arith)
 fresh m turn code q t (Admitting _ _ _ _ _) h = (omega arith, λ _. omega arith, λ _. omega arith)
 fresh m turn code q t (Peering _ _ _ _) h = (omega arith, λ _. omega arith, λ _ _. omega arith)
@@ -147,10 +185,15 @@ fresh m turn code q t (Turning _ _ _ _) h = omega arith
 fresh m turn code q t (Inside _ _ _ _ _) h = omega arith
 fresh m turn code q t (Exiting _ _) h = omega arith
 
-pub ahead_low : (m code q : ℕ) → 0 < code → code ≤ m → q < m → (0 < ahead m code q) × (ahead m code q ≤ m)
-ahead_low m code q a b c = let h = ahead_is m code q b in elim (cases_lt q code) [ inl l ↦ (omega (arith, h.1 l), omega (arith, h.1 l)) | inr g ↦ (omega (arith, h.0 g), omega (arith, h.0 g)) ]
+pub ahead_low : (m code q : ℕ) → 0 < code → code ≤ m → q < m
+    → (0 < ahead m code q) × (ahead m code q ≤ m)
+ahead_low m code q a b c =
+    let h = ahead_is m code q b in
+    elim (cases_lt q code)
+    [ inl l ↦ (omega (arith, h.1 l), omega (arith, h.1 l)) | inr g ↦ (omega (arith, h.0 g), omega (arith, h.0 g)) ]
 
-pub ahead_same : (m code q k : ℕ) → 0 < code → code ≤ m → q < m → k < m → ahead m code q ≡ ahead m code k → q ≡ k
+pub ahead_same : (m code q k : ℕ) → 0 < code → code ≤ m → q < m → k < m
+    → ahead m code q ≡ ahead m code k → q ≡ k
 ahead_same m code q k a b c d e =
     let h = ahead_is m code q b in let g = ahead_is m code k b in
     elim (cases_lt q code) [
@@ -161,26 +204,34 @@ ahead_same m code q k a b c d e =
 -- the room with this code comes last
 pub ahead_last : (m room q : ℕ) → room < m → q < m → m ≤ ahead m (suc room) q → q ≡ room
 ahead_last m room q a b h =
-    let g = ahead_is m (suc room) q (omega arith) in elim (cases_lt q (suc room)) [ inl l ↦ omega (arith, g.1 l) | inr u ↦ absurd (omega (arith, g.0 u)) ]
+    let g = ahead_is m (suc room) q (omega arith) in
+    elim (cases_lt q (suc room))
+    [ inl l ↦ omega (arith, g.1 l) | inr u ↦ absurd (omega (arith, g.0 u)) ]
 
 pub ahead_self : (m room : ℕ) → room < m → ahead m (suc room) room ≡ m
-ahead_self m room a = let g = ahead_is m (suc room) room (omega arith) in omega (arith, g.1 (omega arith))
+ahead_self m room a =
+    let g = ahead_is m (suc room) room (omega arith) in omega (arith, g.1 (omega arith))
 
-pub next_is : (k m : ℕ) → k < m → ((k + 1 < m) × ((k + 1) % m ≡ k + 1)) ⊎ ((k + 1 ≡ m) × ((k + 1) % m ≡ 0))
+pub next_is : (k m : ℕ) → k < m
+    → ((k + 1 < m) × ((k + 1) % m ≡ k + 1)) ⊎ ((k + 1 ≡ m) × ((k + 1) % m ≡ 0))
 next_is k m h = elim (cases_lt (k + 1) m) [
   | inl l ↦ inl (l, mod-eq_of_lt l)
   | inr g ↦ (let e : k + 1 ≡ m = omega arith in inr (e, ap (λ v. v % m) e ∙ mod_self m))
 ]
 
-pub next_ahead : (m room : ℕ) → room < m → ((room + 1) % m < m) × (ahead m (suc room) ((room + 1) % m) ≡ 1)
+pub next_ahead : (m room : ℕ) → room < m
+    → ((room + 1) % m < m) × (ahead m (suc room) ((room + 1) % m) ≡ 1)
 next_ahead m room h = elim (next_is room m h) [
   | inl l ↦ (omega (arith, l.0, l.1), (let g = ahead_is m (suc room) ((room + 1) % m) (omega arith) in omega (arith, l.1, g.0 (omega (arith, l.1)))))
   | inr g ↦ (omega (arith, g.1), (let a = ahead_is m (suc room) ((room + 1) % m) (omega arith) in omega (arith, g.0, g.1, a.1 (omega (arith, g.1)))))
 ]
 
-pub next_further : (m room k : ℕ) → room < m → k < m → (k ≡ room → ⊥) → ((k + 1) % m < m) × (ahead m (suc room) ((k + 1) % m) ≡ ahead m (suc room) k + 1)
+pub next_further : (m room k : ℕ) → room < m → k < m → (k ≡ room → ⊥)
+    → ((k + 1) % m < m) × (ahead m (suc room) ((k + 1) % m) ≡ ahead m (suc room) k + 1)
 next_further m room k hr hk ne =
-    let a = ahead_is m (suc room) k (omega arith) in let b = ahead_is m (suc room) ((k + 1) % m) (omega arith) in
+    let a =
+    ahead_is m (suc room) k (omega arith) in let b = ahead_is m (suc room) ((k + 1) % m)
+    (omega arith) in
     elim (next_is k m hk) [
       | inl l ↦ (
         omega (arith, l.0, l.1),
@@ -192,21 +243,35 @@ next_further m room k hr hk ne =
       | inr e ↦ (omega (arith, e.1), (let gt : room < k = omega (arith, e.0, λ (q : k ≡ room). ne q) in omega (arith, e.0, e.1, a.0 gt, b.1 (omega (arith, e.1)))))
     ]
 
-pub next_ahead_at : (m len code room : ℕ) → len ≡ m → code ≡ suc room → room < m → ((room + 1) % len < m) × (ahead m code ((room + 1) % len) ≡ 1)
+pub next_ahead_at : (m len code room : ℕ) → len ≡ m → code ≡ suc room → room < m
+    → ((room + 1) % len < m) × (ahead m code ((room + 1) % len) ≡ 1)
 next_ahead_at m len code room l e h = rw (l, e) (next_ahead m room h)
 
-pub next_further_at : (m len code room k : ℕ) → len ≡ m → code ≡ suc room → room < m → k < m → (k ≡ room → ⊥) → ((k + 1) % len < m) × (ahead m code ((k + 1) % len) ≡ ahead m code k + 1)
+pub next_further_at : (m len code room k : ℕ) → len ≡ m → code ≡ suc room → room < m → k < m
+    → (k ≡ room → ⊥) → ((k + 1) % len < m) × (ahead m code ((k + 1) % len) ≡ ahead m code k + 1)
 next_further_at m len code room k l e hr hk ne = rw (l, e) (next_further m room k hr hk ne)
 
-pub ahead_last_at : (m code room q : ℕ) → code ≡ suc room → room < m → q < m → m ≤ ahead m code q → q ≡ room
+pub ahead_last_at : (m code room q : ℕ) → code ≡ suc room → room < m → q < m → m ≤ ahead m code q
+    → q ≡ room
 ahead_last_at m code room q e a b h = ahead_last m room q a b (rw e at h)
 
 pub ahead_self_at : (m code room : ℕ) → code ≡ suc room → room < m → ahead m code room ≡ m
 ahead_self_at m code room e a = rw e (ahead_self m room a)
 
-pub ahead_cases : (m code q : ℕ) → code ≤ m → ((code ≤ q) × (ahead m code q + code ≡ q + 1)) ⊎ ((q < code) × (ahead m code q + code ≡ q + 1 + m))
-ahead_cases m code q h = elim (cases_lt q code) [ inl l ↦ inr (l, (ahead_is m code q h).1 l) | inr g ↦ inl (g, (ahead_is m code q h).0 g) ]
+pub ahead_cases : (m code q : ℕ) → code ≤ m
+    → ((code ≤ q) × (ahead m code q + code ≡ q + 1)) ⊎ ((q < code) × (ahead m code q + code ≡ q + 1 + m))
+ahead_cases m code q h =
+    elim (cases_lt q code)
+    [ inl l ↦ inr (l, (ahead_is m code q h).1 l) | inr g ↦ inl (g, (ahead_is m code q h).0 g) ]
 
 -- from room k on it is as much less far as k was ahead
-pub ahead_less : (m code next q k : ℕ) → 0 < code → code ≤ m → next ≡ suc k → q < m → k < m → ahead m code k ≤ ahead m code q → ahead m next q < m → ahead m next q + ahead m code k ≤ ahead m code q
-ahead_less m code next q k a b e hq hk le lt = omega (arith, ahead_cases m code q b, ahead_cases m code k b, ahead_cases m next q (omega (arith, e, hk)))
+pub ahead_less : (m code next q k : ℕ) → 0 < code → code ≤ m → next ≡ suc k → q < m → k < m
+    → ahead m code k ≤ ahead m code q → ahead m next q < m
+    → ahead m next q + ahead m code k ≤ ahead m code q
+ahead_less m code next q k a b e hq hk le lt =
+    omega (
+      arith,
+      ahead_cases m code q b,
+      ahead_cases m code k b,
+      ahead_cases m next q (omega (arith, e, hk)),
+    )

@@ -83,13 +83,17 @@ Fits s now (Glancing room ticket first) = Waits s room ticket
 Fits s now (Seizing room ticket first idle) = Waits s room ticket × (code_of idle ≡ 0)
 Fits s now (Counting room ticket first turn) = Opens s now room ticket turn
 Fits s now (Admitting room ticket first turn to) =
-    Opens s now room ticket turn × (get_or s.grant room 0 < to) × (ticket ≤ to) × (to ≤ get_or s.wait room 0)
+    Opens s now room ticket turn × (get_or s.grant room 0 < to) × (ticket ≤ to) ×
+    (to ≤ get_or s.wait room 0)
 Fits s now (Turning room ticket first to) = Admitted s room ticket to
-Fits s now (Inside room ticket first turn to) = Admitted s room ticket to × (turn ≡ turn_of s.active)
+Fits s now (Inside room ticket first turn to) =
+    Admitted s room ticket to × (turn ≡ turn_of s.active)
 Fits s now (Exiting room turn) = Keeps s now turn true × (code_of s.active ≡ suc room)
-Fits s now (Peering room turn k w) = Keeps s now turn false × (code_of s.active ≡ suc room) × (w ≤ get_or s.wait k 0)
+Fits s now (Peering room turn k w) =
+    Keeps s now turn false × (code_of s.active ≡ suc room) × (w ≤ get_or s.wait k 0)
 Fits s now (Scanning room turn k) = Keeps s now turn false × (code_of s.active ≡ suc room)
-Fits s now (Passing turn next) = Keeps s now turn false × IfSome next (λ k. get_or s.grant k 0 < get_or s.wait k 0)
+Fits s now (Passing turn next) =
+    Keeps s now turn false × IfSome next (λ k. get_or s.grant k 0 < get_or s.wait k 0)
 
 pub record IsOpen (active : ℕ) (exiting closing : Bool) (last : Option ℕ) (r : ℕ) : Type 0 where
   pub code : code_of active ≡ suc r
@@ -100,12 +104,14 @@ pub record IsOpen (active : ℕ) (exiting closing : Bool) (last : Option ℕ) (r
 pub record Inv (s : Words) (ps : List Phase) (t : List Item) : Type 0 where
   pub each : (c : ℕ) → Fits s (is_exiting t) (phase ps c)
   pub one : (c d : ℕ) → is_keeper (phase ps c) ≡ true → is_keeper (phase ps d) ≡ true → c ≡ d
-  pub open_room : (r : ℕ) → get_or s.done r 0 < get_or s.grant r 0 → IsOpen s.active (is_exiting t) (is_closing t) (last_room t) r
+  pub open_room : (r : ℕ) → get_or s.done r 0 < get_or s.grant r 0
+      → IsOpen s.active (is_exiting t) (is_closing t) (last_room t) r
   pub idle : code_of s.active ≡ 0 → is_exiting t ≡ false
   pub occupied : (c : ℕ) → occupant c t ≡ room_inside (phase ps c)
   pub granted : (r : ℕ) → get_or s.grant r 0 ≤ get_or s.wait r 0
   pub total : (r : ℕ) → holders ps r 0 + get_or s.done r 0 ≡ get_or s.wait r 0
-  pub later : (r x : ℕ) → get_or s.grant r 0 ≤ x → x ≤ get_or s.wait r 0 → holders ps r x + x ≡ get_or s.wait r 0
+  pub later : (r x : ℕ) → get_or s.grant r 0 ≤ x → x ≤ get_or s.wait r 0
+      → holders ps r x + x ≡ get_or s.wait r 0
   pub grants : length s.grant ≡ length s.wait
   pub dones : length s.done ≡ length s.wait
   pub few : length s.wait ≤ 7

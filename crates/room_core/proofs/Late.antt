@@ -18,7 +18,8 @@ use Rattle.room_core.proofs.Told.{moment}
 
 -- an admitted ticket was drawn before the last opening
 abbrev pub LateAt : List ℕ → ℕ → ℕ → Phase → Type 0
-LateAt grant count drawn_at p = 0 < ticket_of p → ticket_of p ≤ get_or grant (room_of p) 0 → drawn_at < count
+LateAt grant count drawn_at p =
+    0 < ticket_of p → ticket_of p ≤ get_or grant (room_of p) 0 → drawn_at < count
 
 pub record Late (s : Words) (ps : List Phase) (history : List Moment) : Type 0 where
   pub each : (d : ℕ) → LateAt s.grant (openings (trace history)) (since d history) (phase ps d)
@@ -31,7 +32,8 @@ onto_more (Some (Left c)) t = omega arith
 onto_more (Some (ExitBegun r)) t = omega arith
 onto_more (Some (ExitEnded r)) t = omega arith
 
-since_act : (act : Act) (history : List Moment) (old n : ℕ) → old ≤ n → openings (trace history) ≤ n → since_by act history old ≤ n
+since_act : (act : Act) (history : List Moment) (old n : ℕ) → old ≤ n → openings (trace history) ≤ n
+    → since_by act history old ≤ n
 since_act (Draw r) history old n a b = b
 since_act Step history old n a b = a
 since_act Leave history old n a b = a
@@ -39,36 +41,132 @@ since_act Leave history old n a b = a
 pub since_openings : (c : ℕ) (history : List Moment) → since c history ≤ openings (trace history)
 since_openings c [] = omega arith
 since_openings c (m ∷ history) =
-    let old : openings (trace history) ≤ openings (trace (m ∷ history)) = omega (arith, onto_more m.event.one (trace history), onto_more m.event.two (onto m.event.one (trace history))) in
+    let old : openings (trace history) ≤ openings (trace (m ∷ history)) =
+    omega (
+      arith,
+      onto_more m.event.one (trace history),
+      onto_more m.event.two (onto m.event.one (trace history)),
+    ) in
     let before : since c history ≤ openings (trace history) = since_openings c history in
     let P : ℕ → Type 0 = λ x. x ≤ openings (trace (m ∷ history)) in
     cond_both (eqb m.caller c) (since_by m.act history (since c history)) (since c history) P
-    (λ _. since_act m.act history (since c history) (openings (trace (m ∷ history))) (omega arith) old) (λ _. omega arith)
+    (λ _.
+    since_act m.act history (since c history) (openings (trace (m ∷ history))) (omega arith) old)
+    (λ _. omega arith)
 
 pub same_both : {A : Type 0} (b : Bool) (x : A) → cond b x x ≡ x
 same_both true x = refl
 same_both false x = refl
 
-late_still : (grant : List ℕ) (ps : List Phase) (count c : ℕ) (new old : ℕ → ℕ) (p : Phase) → c < length ps → ((d : ℕ) → new d ≡ old d) → LateAt grant count (old c) p
-    → ((d : ℕ) → LateAt grant count (old d) (phase ps d)) → (d : ℕ) → LateAt grant count (new d) (phase (set ps c p) d)
-late_still grant ps count c new old p h same here all = each_set (λ d q. LateAt grant count (new d) q) ps c p Out h
-    (subst (λ (z : ℕ). LateAt grant count z p) (sym (same c)) here) (λ d _. subst (λ (z : ℕ). LateAt grant count z (phase ps d)) (sym (same d)) (all d))
+late_still : (grant : List ℕ) (ps : List Phase) (count c : ℕ) (new old : ℕ → ℕ) (p : Phase)
+    → c < length ps → ((d : ℕ) → new d ≡ old d) → LateAt grant count (old c) p
+    → ((d : ℕ) → LateAt grant count (old d) (phase ps d)) → (d : ℕ)
+    → LateAt grant count (new d) (phase (set ps c p) d)
+late_still grant ps count c new old p h same here all =
+    each_set (λ d q. LateAt grant count (new d) q) ps c p Out h
+    (subst (λ (z : ℕ). LateAt grant count z p) (sym (same c)) here)
+    (λ d _. subst (λ (z : ℕ). LateAt grant count z (phase ps d)) (sym (same d)) (all d))
 
-pub late_went : (c : ℕ) (s : Words) (ps : List Phase) (history : List Moment) (p : Phase) (act : Act) (row : Row) → Went c s p act row → Inv s ps (trace history) → c < length ps → phase ps c ≡ p
+pub late_went : (c : ℕ) (s : Words) (ps : List Phase) (history : List Moment) (p : Phase) (act : Act) (row : Row)
+    → Went c s p act row → Inv s ps (trace history) → c < length ps → phase ps c ≡ p
     → Late s ps history → Late (touched s row.1.touch) (set ps c row.0) (moment c act row ∷ history)
 late_went c s ps history p act row (drawn r hr) i h e k = record {
-  each = each_set (λ d q. LateAt s.grant (openings (trace history)) (since d (moment c act row ∷ history)) q) ps c (Looking r (get_or s.wait r 0 + 1) None) Out h
+  each =
+      each_set
+      (λ d q. LateAt s.grant (openings (trace history)) (since d (moment c act row ∷ history)) q) ps
+      c (Looking r (get_or s.wait r 0 + 1) None) Out h
       (λ z x. let g = i.granted r in absurd (omega arith))
-      (λ d ne. subst (λ (z : ℕ). LateAt s.grant (openings (trace history)) z (phase ps d)) (sym (cond-false (eqb c d) (openings (trace history)) (since d history) (ne_eqb c d (λ q. ne (sym q))))) (k.each d));
+      (λ d ne.
+      subst (λ (z : ℕ). LateAt s.grant (openings (trace history)) z (phase ps d))
+      (sym
+      (cond-false (eqb c d) (openings (trace history)) (since d history)
+      (ne_eqb c d (λ q. ne (sym q))))) (k.each d));
 }
-late_went c s ps history p act row (found room ticket first le) i h e k = let n : ℕ = openings (trace history) in record { each = late_still s.grant ps n c (λ d. since d (moment c act row ∷ history)) (λ d. since d history) row.0 h (λ d. same_both (eqb c d) (since d history)) (subst (LateAt s.grant n (since c history)) e (k.each c)) k.each }
-late_went c s ps history p act row (missed room ticket first le) i h e k = let n : ℕ = openings (trace history) in record { each = late_still s.grant ps n c (λ d. since d (moment c act row ∷ history)) (λ d. since d history) row.0 h (λ d. same_both (eqb c d) (since d history)) (subst (LateAt s.grant n (since c history)) e (k.each c)) k.each }
-late_went c s ps history p act row (saw_idle room ticket first z) i h e k = let n : ℕ = openings (trace history) in record { each = late_still s.grant ps n c (λ d. since d (moment c act row ∷ history)) (λ d. since d history) row.0 h (λ d. same_both (eqb c d) (since d history)) (subst (LateAt s.grant n (since c history)) e (k.each c)) k.each }
-late_went c s ps history p act row (saw_busy room ticket first) i h e k = let n : ℕ = openings (trace history) in record { each = late_still s.grant ps n c (λ d. since d (moment c act row ∷ history)) (λ d. since d history) row.0 h (λ d. same_both (eqb c d) (since d history)) (subst (LateAt s.grant n (since c history)) e (k.each c)) k.each }
-late_went c s ps history p act row (won room ticket first) i h e k = let n : ℕ = openings (trace history) in record { each = late_still s.grant ps n c (λ d. since d (moment c act row ∷ history)) (λ d. since d history) row.0 h (λ d. same_both (eqb c d) (since d history)) (subst (LateAt s.grant n (since c history)) e (k.each c)) k.each }
-late_went c s ps history p act row (lost room ticket first idle) i h e k = let n : ℕ = openings (trace history) in record { each = late_still s.grant ps n c (λ d. since d (moment c act row ∷ history)) (λ d. since d history) row.0 h (λ d. same_both (eqb c d) (since d history)) (subst (LateAt s.grant n (since c history)) e (k.each c)) k.each }
-late_went c s ps history p act row (counted_wait room ticket first turn) i h e k = let n : ℕ = openings (trace history) in record { each = late_still s.grant ps n c (λ d. since d (moment c act row ∷ history)) (λ d. since d history) row.0 h (λ d. same_both (eqb c d) (since d history)) (subst (LateAt s.grant n (since c history)) e (k.each c)) k.each }
-late_went c s ps history p act row (entered room ticket first to) i h e k = let n : ℕ = openings (trace history) in record { each = late_still s.grant ps n c (λ d. since d (moment c act row ∷ history)) (λ d. since d history) row.0 h (λ d. same_both (eqb c d) (since d history)) (subst (LateAt s.grant n (since c history)) e (k.each c)) k.each }
-late_went c s ps history p act row (opened room first turn to) i h e k = record { each = λ d _ _. let u = since_openings d history in let q : since d (moment c act row ∷ history) ≡ since d history = same_both (eqb c d) (since d history) in omega arith }
-late_went c s ps history p act row (opened_in room ticket first turn to) i h e k = record { each = λ d _ _. let u = since_openings d history in let q : since d (moment c act row ∷ history) ≡ since d history = same_both (eqb c d) (since d history) in omega arith }
-late_went c s ps history p act row went i h e k = let n : ℕ = openings (trace history) in record { each = late_still s.grant ps n c (λ d. since d (moment c act row ∷ history)) (λ d. since d history) row.0 h (λ d. same_both (eqb c d) (since d history)) (λ z _. absurd (omega arith)) k.each }
+late_went c s ps history p act row (found room ticket first le) i h e k =
+    let n : ℕ = openings (trace history) in
+    record {
+      each =
+          late_still s.grant ps n c (λ d. since d (moment c act row ∷ history))
+          (λ d. since d history) row.0 h (λ d. same_both (eqb c d) (since d history))
+          (subst (LateAt s.grant n (since c history)) e (k.each c)) k.each;
+    }
+late_went c s ps history p act row (missed room ticket first le) i h e k =
+    let n : ℕ = openings (trace history) in
+    record {
+      each =
+          late_still s.grant ps n c (λ d. since d (moment c act row ∷ history))
+          (λ d. since d history) row.0 h (λ d. same_both (eqb c d) (since d history))
+          (subst (LateAt s.grant n (since c history)) e (k.each c)) k.each;
+    }
+late_went c s ps history p act row (saw_idle room ticket first z) i h e k =
+    let n : ℕ = openings (trace history) in
+    record {
+      each =
+          late_still s.grant ps n c (λ d. since d (moment c act row ∷ history))
+          (λ d. since d history) row.0 h (λ d. same_both (eqb c d) (since d history))
+          (subst (LateAt s.grant n (since c history)) e (k.each c)) k.each;
+    }
+late_went c s ps history p act row (saw_busy room ticket first) i h e k =
+    let n : ℕ = openings (trace history) in
+    record {
+      each =
+          late_still s.grant ps n c (λ d. since d (moment c act row ∷ history))
+          (λ d. since d history) row.0 h (λ d. same_both (eqb c d) (since d history))
+          (subst (LateAt s.grant n (since c history)) e (k.each c)) k.each;
+    }
+late_went c s ps history p act row (won room ticket first) i h e k =
+    let n : ℕ = openings (trace history) in
+    record {
+      each =
+          late_still s.grant ps n c (λ d. since d (moment c act row ∷ history))
+          (λ d. since d history) row.0 h (λ d. same_both (eqb c d) (since d history))
+          (subst (LateAt s.grant n (since c history)) e (k.each c)) k.each;
+    }
+late_went c s ps history p act row (lost room ticket first idle) i h e k =
+    let n : ℕ = openings (trace history) in
+    record {
+      each =
+          late_still s.grant ps n c (λ d. since d (moment c act row ∷ history))
+          (λ d. since d history) row.0 h (λ d. same_both (eqb c d) (since d history))
+          (subst (LateAt s.grant n (since c history)) e (k.each c)) k.each;
+    }
+late_went c s ps history p act row (counted_wait room ticket first turn) i h e k =
+    let n : ℕ = openings (trace history) in
+    record {
+      each =
+          late_still s.grant ps n c (λ d. since d (moment c act row ∷ history))
+          (λ d. since d history) row.0 h (λ d. same_both (eqb c d) (since d history))
+          (subst (LateAt s.grant n (since c history)) e (k.each c)) k.each;
+    }
+late_went c s ps history p act row (entered room ticket first to) i h e k =
+    let n : ℕ = openings (trace history) in
+    record {
+      each =
+          late_still s.grant ps n c (λ d. since d (moment c act row ∷ history))
+          (λ d. since d history) row.0 h (λ d. same_both (eqb c d) (since d history))
+          (subst (LateAt s.grant n (since c history)) e (k.each c)) k.each;
+    }
+late_went c s ps history p act row (opened room first turn to) i h e k = record {
+  each =
+      λ d _ _.
+      let u = since_openings d history in
+      let q : since d (moment c act row ∷ history) ≡ since d history =
+      same_both (eqb c d) (since d history) in
+      omega arith;
+}
+late_went c s ps history p act row (opened_in room ticket first turn to) i h e k = record {
+  each =
+      λ d _ _.
+      let u = since_openings d history in
+      let q : since d (moment c act row ∷ history) ≡ since d history =
+      same_both (eqb c d) (since d history) in
+      omega arith;
+}
+late_went c s ps history p act row went i h e k =
+    let n : ℕ = openings (trace history) in
+    record {
+      each =
+          late_still s.grant ps n c (λ d. since d (moment c act row ∷ history))
+          (λ d. since d history) row.0 h (λ d. same_both (eqb c d) (since d history))
+          (λ z _. absurd (omega arith)) k.each;
+    }

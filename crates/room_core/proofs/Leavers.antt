@@ -21,8 +21,10 @@ LeaverAt who d _ = Unit {0}
 pub record LeftLast (ps : List Phase) (t : List Item) : Type 0 where
   pub each : (d : ℕ) → LeaverAt (leaver t) d (phase ps d)
 
-leaver_still : (ps : List Phase) (who c : ℕ) (p : Phase) → c < length ps → LeaverAt who c p → ((d : ℕ) → LeaverAt who d (phase ps d)) → (d : ℕ) → LeaverAt who d (phase (set ps c p) d)
-leaver_still ps who c p h here all = each_set (λ d q. LeaverAt who d q) ps c p Out h here (λ d _. all d)
+leaver_still : (ps : List Phase) (who c : ℕ) (p : Phase) → c < length ps → LeaverAt who c p
+    → ((d : ℕ) → LeaverAt who d (phase ps d)) → (d : ℕ) → LeaverAt who d (phase (set ps c p) d)
+leaver_still ps who c p h here all =
+    each_set (λ d q. LeaverAt who d q) ps c p Out h here (λ d _. all d)
 
 not_exiting : (who d : ℕ) (p : Phase) → (is_keeper p ≡ true → ⊥) → LeaverAt who d p
 not_exiting who d (Exiting room turn) h = absurd (h refl)
@@ -39,12 +41,30 @@ not_exiting who d (Scanning _ _ _) h = tt
 not_exiting who d (Passing _ _) h = tt
 
 -- while somebody is inside nobody has the key
-none_exiting : (s : Words) (ps : List Phase) (t : List Item) (c room ticket : ℕ) (first : Option ℕ) (turn to : ℕ) → Inv s ps t → phase ps c ≡ Inside room ticket first turn to → (d : ℕ) → is_keeper (phase ps d) ≡ true → ⊥
-none_exiting s ps t c room ticket first turn to i e d = let f : Fits s (is_exiting t) (Inside room ticket first turn to) = fits_at s ps t c (Inside room ticket first turn to) i e in
-    let a = admitted_open s ps t c i in let a' : 0 < ticket → ticket ≤ get_or s.grant room 0 → get_or s.done room 0 < get_or s.grant room 0 = rw e at a in
+none_exiting : (s : Words) (ps : List Phase) (t : List Item) (c room ticket : ℕ) (first : Option ℕ) (turn to : ℕ)
+    → Inv s ps t → phase ps c ≡ Inside room ticket first turn to → (d : ℕ)
+    → is_keeper (phase ps d) ≡ true → ⊥
+none_exiting s ps t c room ticket first turn to i e d =
+    let f : Fits s (is_exiting t) (Inside room ticket first turn to) =
+    fits_at s ps t c (Inside room ticket first turn to) i e in
+    let a =
+    admitted_open s ps t c i in let a' : 0 < ticket → ticket ≤ get_or s.grant room 0
+    → get_or s.done room 0 < get_or s.grant room 0 = rw e at a in
     no_keeper s ps t d i (inl (room, a' f.0.some f.0.granted))
 
-pub leaver_went : (c : ℕ) (s : Words) (ps : List Phase) (t : List Item) (p : Phase) (act : Act) (row : Row) → Went c s p act row → Inv s ps t → c < length ps → phase ps c ≡ p → LeftLast ps t → LeftLast (set ps c row.0) (onto row.1.two (onto row.1.one t))
-leaver_went c s ps t p act row (left room ticket first turn to short) i h e k = record { each = leaver_still ps c c Out h tt (λ d. not_exiting c d (phase ps d) (none_exiting s ps t c room ticket first turn to i e d)) }
-leaver_went c s ps t p act row (left_last room ticket first turn to full) i h e k = record { each = leaver_still ps c c (Exiting room turn) h refl (λ d. not_exiting c d (phase ps d) (none_exiting s ps t c room ticket first turn to i e d)) }
-leaver_went c s ps t p act row went i h e k = record { each = leaver_still ps (leaver t) c row.0 h tt k.each }
+pub leaver_went : (c : ℕ) (s : Words) (ps : List Phase) (t : List Item) (p : Phase) (act : Act) (row : Row)
+    → Went c s p act row → Inv s ps t → c < length ps → phase ps c ≡ p → LeftLast ps t
+    → LeftLast (set ps c row.0) (onto row.1.two (onto row.1.one t))
+leaver_went c s ps t p act row (left room ticket first turn to short) i h e k = record {
+  each =
+      leaver_still ps c c Out h tt
+      (λ d. not_exiting c d (phase ps d) (none_exiting s ps t c room ticket first turn to i e d));
+}
+leaver_went c s ps t p act row (left_last room ticket first turn to full) i h e k = record {
+  each =
+      leaver_still ps c c (Exiting room turn) h refl
+      (λ d. not_exiting c d (phase ps d) (none_exiting s ps t c room ticket first turn to i e d));
+}
+leaver_went c s ps t p act row went i h e k = record {
+  each = leaver_still ps (leaver t) c row.0 h tt k.each;
+}

@@ -22,7 +22,6 @@ pub mod Sums
 pub mod Reached
 pub mod Prompt
 pub mod Prompting
-pub mod Examples
 pub mod Listed
 pub mod Late
 pub mod Lasts

@@ -34,12 +34,14 @@ pub record Sound (rooms callers : ℕ) (w : World) : Type 0 where
   pub leavers : LeftLast w.state.phases (trace w.history)
   pub awake : Awake w.state.words w.state.phases
 
-sound_kept : (rooms callers : ℕ) (w : World) (c : ℕ) (act : Act) → callers ≤ 64 → Sound rooms callers w → Sound rooms callers (happens w (c, act))
+sound_kept : (rooms callers : ℕ) (w : World) (c : ℕ) (act : Act) → callers ≤ 64
+    → Sound rooms callers w → Sound rooms callers (happens w (c, act))
 sound_kept rooms callers w c act crowd k = record {
   good = happens_kept w c act k.good;
   more = more_kept rooms w c act k.good k.more;
   sums = by_happens_is w c act (SumsAt callers) k.sums (λ h row e went.
-      sums_went callers c w.state.words w.state.phases (trace w.history) w.state.draws (phase w.state.phases c) act row crowd went k.good.inv k.more.marks h refl
+      sums_went callers c w.state.words w.state.phases (trace w.history) w.state.draws
+      (phase w.state.phases c) act row crowd went k.good.inv k.more.marks h refl
       (λ r ea. draw_free w.state c r row (ap (row_of w.state c) (sym ea) ∙ e)) k.sums);
   leavers = by_happens_is w c act (λ v. LeftLast v.state.phases (trace v.history)) k.leavers (λ h row e went.
       leaver_went c w.state.words w.state.phases (trace w.history) (phase w.state.phases c) act row went k.good.inv h refl k.leavers);
@@ -49,9 +51,11 @@ sound_kept rooms callers w c act crowd k = record {
       late_went c w.state.words w.state.phases w.history (phase w.state.phases c) act row went k.good.inv h refl k.late);
 }
 
-pub run_sound : (rooms callers : ℕ) (acts : List (ℕ × Act)) (w : World) → callers ≤ 64 → Sound rooms callers w → Sound rooms callers (run acts w)
+pub run_sound : (rooms callers : ℕ) (acts : List (ℕ × Act)) (w : World) → callers ≤ 64
+    → Sound rooms callers w → Sound rooms callers (run acts w)
 run_sound rooms callers [] w crowd k = k
-run_sound rooms callers (a ∷ acts) w crowd k = run_sound rooms callers acts (happens w a) crowd (sound_kept rooms callers w a.0 a.1 crowd k)
+run_sound rooms callers (a ∷ acts) w crowd k =
+    run_sound rooms callers acts (happens w a) crowd (sound_kept rooms callers w a.0 a.1 crowd k)
 
 pub start_sound : (rooms callers : ℕ) → rooms ≤ 7 → Sound rooms callers (start rooms callers)
 start_sound rooms callers few = record {
@@ -68,37 +72,69 @@ start_sound rooms callers few = record {
   };
   awake = record { why = inl refl };
   leavers = record { each = λ d. subst (LeaverAt 0 d) (sym (outs callers d)) tt };
-  late = record { each = λ d. subst (LateAt (replicate rooms 0) 0 0) (sym (outs callers d)) (λ z _. absurd (omega arith)) };
+  late = record {
+    each =
+        λ d.
+        subst (LateAt (replicate rooms 0) 0 0) (sym (outs callers d))
+        (λ z _. absurd (omega arith));
+  };
 }
 
-pub reached_sound : (s : State) → (k : IsReached s) → Sound k.rooms k.callers (record { state = s; history = k.history })
-reached_sound s k = subst (Sound k.rooms k.callers) k.leads (run_sound k.rooms k.callers k.acts (start k.rooms k.callers) k.crowd (start_sound k.rooms k.callers k.few))
+pub reached_sound : (s : State) → (k : IsReached s)
+    → Sound k.rooms k.callers (record { state = s; history = k.history })
+reached_sound s k =
+    subst (Sound k.rooms k.callers) k.leads
+    (run_sound k.rooms k.callers k.acts (start k.rooms k.callers) k.crowd
+    (start_sound k.rooms k.callers k.few))
 
 pub reached_small : (s : State) → IsReached s → IsSmall s
 reached_small s k =
     let a = reached_sound s k in
     let w = s.words in
     record {
-      active = active_small k.callers w s.phases (trace k.history) s.draws k.crowd a.good.inv a.sums;
-      wait = λ r. omega (arith, wait_small k.callers w s.phases (trace k.history) s.draws k.crowd a.good.inv a.sums r);
-      done = λ r. omega (arith, done_small k.callers w s.phases (trace k.history) s.draws k.crowd a.good.inv a.sums r);
+      active =
+          active_small k.callers w s.phases (trace k.history) s.draws k.crowd a.good.inv a.sums;
+      wait =
+          λ r.
+          omega (
+            arith,
+            wait_small k.callers w s.phases (trace k.history) s.draws k.crowd a.good.inv a.sums r,
+          );
+      done =
+          λ r.
+          omega (
+            arith,
+            done_small k.callers w s.phases (trace k.history) s.draws k.crowd a.good.inv a.sums r,
+          );
       drawn = a.sums.most;
     }
 
-named_by : (m : ℕ) (s : Words) (now : Bool) (p : Phase) → length s.wait ≡ m → code_of s.active ≤ m → s.active < 2 ^ 60 → ((r : ℕ) → get_or s.grant r 0 ≤ get_or s.wait r 0) → Fits s now p → Named m p → IdleAt p → IsNamed (length s.wait) p
+named_by : (m : ℕ) (s : Words) (now : Bool) (p : Phase) → length s.wait ≡ m → code_of s.active ≤ m
+    → s.active < 2 ^ 60 → ((r : ℕ) → get_or s.grant r 0 ≤ get_or s.wait r 0) → Fits s now p
+    → Named m p → IdleAt p → IsNamed (length s.wait) p
 named_by m s now Out e c a g f n i = tt
-named_by m s now (Looking room ticket first) e c a g f n i = within s.wait room (omega (arith, f.some, f.drawn))
-named_by m s now (Glancing room ticket first) e c a g f n i = within s.wait room (omega (arith, f.some, f.drawn))
-named_by m s now (Seizing room ticket first idle) e c a g f n i = (within s.wait room (omega (arith, f.0.some, f.0.drawn)), i)
-named_by m s now (Counting room ticket first turn) e c a g f n i = within s.wait room (omega (arith, f.more))
-named_by m s now (Admitting room ticket first turn to) e c a g f n i = within s.wait room (omega (arith, f.0.more))
-named_by m s now (Turning room ticket first to) e c a g f n i = within s.wait room (omega (arith, f.some, f.granted, g room))
-named_by m s now (Inside room ticket first turn to) e c a g f n i = within s.wait room (omega (arith, f.0.some, f.0.granted, g room))
+named_by m s now (Looking room ticket first) e c a g f n i =
+    within s.wait room (omega (arith, f.some, f.drawn))
+named_by m s now (Glancing room ticket first) e c a g f n i =
+    within s.wait room (omega (arith, f.some, f.drawn))
+named_by m s now (Seizing room ticket first idle) e c a g f n i =
+    (within s.wait room (omega (arith, f.0.some, f.0.drawn)), i)
+named_by m s now (Counting room ticket first turn) e c a g f n i =
+    within s.wait room (omega (arith, f.more))
+named_by m s now (Admitting room ticket first turn to) e c a g f n i =
+    within s.wait room (omega (arith, f.0.more))
+named_by m s now (Turning room ticket first to) e c a g f n i =
+    within s.wait room (omega (arith, f.some, f.granted, g room))
+named_by m s now (Inside room ticket first turn to) e c a g f n i =
+    within s.wait room (omega (arith, f.0.some, f.0.granted, g room))
 named_by m s now (Exiting room turn) e c a g f n i = omega (arith, f.1, c, e)
-named_by m s now (Peering room turn k w) e c a g f n i = (omega (arith, f.1, c, e), omega (arith, n, e))
-named_by m s now (Scanning room turn k) e c a g f n i = (omega (arith, f.1, c, e), omega (arith, n, e))
+named_by m s now (Peering room turn k w) e c a g f n i =
+    (omega (arith, f.1, c, e), omega (arith, n, e))
+named_by m s now (Scanning room turn k) e c a g f n i =
+    (omega (arith, f.1, c, e), omega (arith, n, e))
 named_by m s now (Passing turn None) e c a g f n i = (omega (arith, f.0.turn_is, a), tt)
-named_by m s now (Passing turn (Some k)) e c a g f n i = (omega (arith, f.0.turn_is, a), within s.wait k (omega (arith, f.1)))
+named_by m s now (Passing turn (Some k)) e c a g f n i =
+    (omega (arith, f.0.turn_is, a), within s.wait k (omega (arith, f.1)))
 
 pub reached_sized : (s : State) → IsReached s → IsSized s
 reached_sized s k =
@@ -111,14 +147,20 @@ reached_sized s k =
       dones = i.dones;
       callers = omega (arith, a.sums.phases, k.crowd);
       draws = a.sums.makers ∙ sym a.sums.phases;
-      named = λ c. named_by k.rooms s.words (is_exiting (trace k.history)) (phase s.phases c) a.more.due.rooms a.more.due.code (reached_small s k).active i.granted (i.each c) (a.more.due.named c) (a.sums.idles c);
+      named =
+          λ c.
+          named_by k.rooms s.words (is_exiting (trace k.history)) (phase s.phases c)
+          a.more.due.rooms a.more.due.code (reached_small s k).active i.granted (i.each c)
+          (a.more.due.named c) (a.sums.idles c);
     }
 
-pub run_push : (acts : List (ℕ × Act)) (a : ℕ × Act) (w : World) → run (acts ++ a ∷ []) w ≡ happens (run acts w) a
+pub run_push : (acts : List (ℕ × Act)) (a : ℕ × Act) (w : World)
+    → run (acts ++ a ∷ []) w ≡ happens (run acts w) a
 run_push [] a w = refl
 run_push (b ∷ acts) a w = run_push acts a (happens w b)
 
-pub reached_step : (s : State) (c : ℕ) (act : Act) (row : Row) → IsReached s → row_of s c act ≡ Ok row → IsReached (after s c act row)
+pub reached_step : (s : State) (c : ℕ) (act : Act) (row : Row) → IsReached s
+    → row_of s c act ≡ Ok row → IsReached (after s c act row)
 reached_step s c act row k e = record {
   rooms = k.rooms;
   callers = k.callers;
@@ -127,20 +169,38 @@ reached_step s c act row k e = record {
   some = k.some;
   few = k.few;
   crowd = k.crowd;
-  leads = run_push k.acts (c, act) (start k.rooms k.callers) ∙ ap (λ w. happens w (c, act)) k.leads ∙ ap (carried (record { state = s; history = k.history }) c act) e;
+  leads =
+      run_push k.acts (c, act) (start k.rooms k.callers) ∙ ap (λ w. happens w (c, act)) k.leads
+      ∙ ap (carried (record { state = s; history = k.history }) c act) e;
 }
 
-pub reached_touch : (s : State) (c : ℕ) (act : Act) (row : Row) → IsReached s → row_of s c act ≡ Ok row → CanTouch s.words row.1.touch
+pub reached_touch : (s : State) (c : ℕ) (act : Act) (row : Row) → IsReached s
+    → row_of s c act ≡ Ok row → CanTouch s.words row.1.touch
 reached_touch s c act row k e =
     let a = reached_sound s k in
     by_row_is s c act (λ r. r ≡ Ok row → CanTouch s.words row.1.touch) (λ _ _ q. absurd (cc))
     (λ h row' _ went q. let same : row' ≡ row = cc in subst (λ x. CanTouch s.words x.1.touch) same
     (can_touch k.callers c s.words s.phases (trace k.history) s.draws (phase s.phases c) act row' k.crowd went a.good.inv h refl a.sums)) e
 
-pub acting_touch : (s : State) (c : ℕ) (p : Phase) (act : Act) (r : Result Row Refused) → IsReached s → c < length s.phases → p ≡ phase_of s c → r ≡ acting s c p act → IfOk r (λ row. CanTouch s.words row.1.touch)
+pub acting_touch : (s : State) (c : ℕ) (p : Phase) (act : Act) (r : Result Row Refused)
+    → IsReached s → c < length s.phases → p ≡ phase_of s c → r ≡ acting s c p act
+    → IfOk r (λ row. CanTouch s.words row.1.touch)
 acting_touch s c p act (Err why) k h e q = tt
 acting_touch s c p act (Ok row) k h e q =
-    reached_touch s c act row k (cond-true (ltb c (length s.phases)) (acting s c (phase_of s c) act) (Err NoCaller) (lt-ltb c (length s.phases) h) ∙ ap (λ x. acting s c x act) (sym e) ∙ sym q)
+    reached_touch s c act row k
+    (cond-true (ltb c (length s.phases)) (acting s c (phase_of s c) act) (Err NoCaller)
+    (lt-ltb c (length s.phases) h)
+    ∙ ap (λ x. acting s c x act) (sym e) ∙ sym q)
 
-pub start_reached : (rooms callers : ℕ) → 0 < rooms → rooms ≤ 7 → callers ≤ 64 → IsReached (start rooms callers).state
-start_reached rooms callers some few crowd = record { rooms = rooms; callers = callers; acts = []; history = []; some = some; few = few; crowd = crowd; leads = refl }
+pub start_reached : (rooms callers : ℕ) → 0 < rooms → rooms ≤ 7 → callers ≤ 64
+    → IsReached (start rooms callers).state
+start_reached rooms callers some few crowd = record {
+  rooms = rooms;
+  callers = callers;
+  acts = [];
+  history = [];
+  some = some;
+  few = few;
+  crowd = crowd;
+  leads = refl;
+}

@@ -39,11 +39,14 @@ pub record Sums (callers : ℕ) (w : Words) (ps : List Phase) (made : List ℕ) 
   pub idles : (d : ℕ) → IdleAt (phase ps d)
 
 abbrev pub SumsAt : ℕ → World → Type 0
-SumsAt callers w = Sums callers w.state.words w.state.phases w.state.draws (openings (trace w.history))
+SumsAt callers w =
+    Sums callers w.state.words w.state.phases w.state.draws (openings (trace w.history))
 
 -- a step that draws nothing and opens nothing
-sums_still : (n : ℕ) (w : Words) (ps : List Phase) (made : List ℕ) (count c : ℕ) (p : Phase) (active : ℕ) (done : List ℕ) → c < length ps → Sums n w ps made count → turn_of active ≤ count + 1 → IdleAt p
-    → Sums n (record { active = active; wait = w.wait; grant = w.grant; done = done }) (set ps c p) made count
+sums_still : (n : ℕ) (w : Words) (ps : List Phase) (made : List ℕ) (count c : ℕ) (p : Phase) (active : ℕ) (done : List ℕ)
+    → c < length ps → Sums n w ps made count → turn_of active ≤ count + 1 → IdleAt p
+    → Sums n (record { active = active; wait = w.wait; grant = w.grant; done = done }) (set ps c p)
+    made count
 sums_still n w ps made count c p active done h k t q = record {
   phases = length-set ps c p ∙ k.phases;
   makers = k.makers;
@@ -55,11 +58,15 @@ sums_still n w ps made count c p active done h k t q = record {
 }
 
 -- a store of a grant
-sums_opened : (n : ℕ) (s : Words) (ps : List Phase) (made : List ℕ) (t : List Item) (c room ticket : ℕ) (first : Option ℕ) (turn to : ℕ) (p : Phase) → Inv s ps t → c < length ps → phase ps c ≡ Admitting room ticket first turn to → Sums n s ps made (openings t) → IdleAt p
+sums_opened : (n : ℕ) (s : Words) (ps : List Phase) (made : List ℕ) (t : List Item) (c room ticket : ℕ) (first : Option ℕ) (turn to : ℕ) (p : Phase)
+    → Inv s ps t → c < length ps → phase ps c ≡ Admitting room ticket first turn to
+    → Sums n s ps made (openings t) → IdleAt p
     → Sums n (record s { grant = set s.grant room to }) (set ps c p) made (openings t + 1)
 sums_opened n s ps made t c room ticket first turn to p i h e k q =
-    let f : Fits s (is_exiting t) (Admitting room ticket first turn to) = fits_at s ps t c (Admitting room ticket first turn to) i e in
-    let small : room < length s.grant = omega (arith, within s.wait room (omega (arith, f.0.more)), i.grants) in
+    let f : Fits s (is_exiting t) (Admitting room ticket first turn to) =
+    fits_at s ps t c (Admitting room ticket first turn to) i e in
+    let small : room < length s.grant =
+    omega (arith, within s.wait room (omega (arith, f.0.more)), i.grants) in
     record {
       phases = length-set ps c p ∙ k.phases;
       makers = k.makers;
@@ -70,7 +77,8 @@ sums_opened n s ps made t c room ticket first turn to p i h e k q =
       idles = each_set (λ _ q. IdleAt q) ps c p Out h q (λ d _. k.idles d);
     }
 
-sums_le : (xs ys : List ℕ) → length xs ≡ length ys → ((k : ℕ) → get_or xs k 0 ≤ get_or ys k 0) → total xs ≤ total ys
+sums_le : (xs ys : List ℕ) → length xs ≡ length ys → ((k : ℕ) → get_or xs k 0 ≤ get_or ys k 0)
+    → total xs ≤ total ys
 sums_le [] ys e h = omega arith
 sums_le (x ∷ xs) [] e h = absurd (cc)
 sums_le (x ∷ xs) (y ∷ ys) e h =
@@ -81,7 +89,8 @@ sums_le (x ∷ xs) (y ∷ ys) e h =
 module _ (n : ℕ) (w : Words) (ps : List Phase) (t : List Item) (made : List ℕ) (few : n ≤ 64) (i : Inv w ps t) (k : Sums n w ps made (openings t)) where
   pub waits_small : total w.wait ≤ 2 ^ 54
   waits_small =
-      let each : All (λ x. x ≤ 2 ^ 48) made = λ c d h. (let e = get_or_default made c d 0 h in omega (arith, e, k.most c)) in
+      let each : All (λ x. x ≤ 2 ^ 48) made =
+      λ c d h. (let e = get_or_default made c d 0 h in omega (arith, e, k.most c)) in
       omega (arith, sum_by-le (λ x. x) (2 ^ 48) made each, k.all, k.makers, few)
 
   pub wait_small : (r : ℕ) → get_or w.wait r 0 ≤ 2 ^ 54
@@ -94,60 +103,115 @@ module _ (n : ℕ) (w : Words) (ps : List Phase) (t : List Item) (made : List �
   done_small r = omega (arith, done_granted w ps t i r, i.granted r, wait_small r)
 
   pub active_small : w.active < 2 ^ 60
-  active_small = omega (arith, k.turn, k.paid, sums_le w.grant w.wait i.grants i.granted, waits_small)
+  active_small =
+      omega (arith, k.turn, k.paid, sums_le w.grant w.wait i.grants i.granted, waits_small)
 
-pub sums_went : (n c : ℕ) (s : Words) (ps : List Phase) (t : List Item) (made : List ℕ) (p : Phase) (act : Act) (row : Row) → n ≤ 64 → Went c s p act row → Inv s ps t → MarkedAt s ps t → c < length ps → phase ps c ≡ p
-    → ((r : ℕ) → act ≡ Draw r → get_or made c 0 ≢ 2 ^ 48) → Sums n s ps made (openings t) → Sums n (touched s row.1.touch) (set ps c row.0) (counted made c act) (openings (onto row.1.two (onto row.1.one t)))
+pub sums_went : (n c : ℕ) (s : Words) (ps : List Phase) (t : List Item) (made : List ℕ) (p : Phase) (act : Act) (row : Row)
+    → n ≤ 64 → Went c s p act row → Inv s ps t → MarkedAt s ps t → c < length ps → phase ps c ≡ p
+    → ((r : ℕ) → act ≡ Draw r → get_or made c 0 ≢ 2 ^ 48) → Sums n s ps made (openings t)
+    → Sums n (touched s row.1.touch) (set ps c row.0) (counted made c act)
+    (openings (onto row.1.two (onto row.1.one t)))
 sums_went n c s ps t made p act row few (drawn r hr) i m h e free k =
     let hm : c < length made = omega (arith, h, k.phases, k.makers) in
     let below : get_or made c 0 < 2 ^ 48 = omega (arith, k.most c, free r refl) in
     record {
       phases = length-set ps c (Looking r (get_or s.wait r 0 + 1) None) ∙ k.phases;
       makers = length-set made c (get_or made c 0 + 1) ∙ k.makers;
-      all = omega (arith, sum_by-set (λ x. x) made c (get_or made c 0 + 1) 0 hm, sum_by-set (λ x. x) s.wait r (get_or s.wait r 0 + 1) 0 hr, k.all);
-      most = each_set (λ _ v. v ≤ 2 ^ 48) made c (get_or made c 0 + 1) 0 hm (omega (arith, below)) (λ d _. k.most d);
+      all =
+          omega (
+            arith,
+            sum_by-set (λ x. x) made c (get_or made c 0 + 1) 0 hm,
+            sum_by-set (λ x. x) s.wait r (get_or s.wait r 0 + 1) 0 hr,
+            k.all,
+          );
+      most =
+          each_set (λ _ v. v ≤ 2 ^ 48) made c (get_or made c 0 + 1) 0 hm (omega (arith, below))
+          (λ d _. k.most d);
       paid = k.paid;
       turn = k.turn;
-      idles = each_set (λ _ q. IdleAt q) ps c (Looking r (get_or s.wait r 0 + 1) None) Out h tt (λ d _. k.idles d);
+      idles =
+          each_set (λ _ q. IdleAt q) ps c (Looking r (get_or s.wait r 0 + 1) None) Out h tt
+          (λ d _. k.idles d);
     }
-sums_went n c s ps t made p act row few (saw_idle room ticket first z) i m h e free k = sums_still n s ps made _ c (Seizing room ticket (seen first s.active) s.active) s.active s.done h k k.turn (active_small n s ps t made few i k)
+sums_went n c s ps t made p act row few (saw_idle room ticket first z) i m h e free k =
+    sums_still n s ps made _ c (Seizing room ticket (seen first s.active) s.active) s.active s.done
+    h k k.turn (active_small n s ps t made few i k)
 sums_went n c s ps t made p act row few (won room ticket first) i m h e free k =
-    let f : Fits s (is_exiting t) (Seizing room ticket first s.active) = fits_at s ps t c (Seizing room ticket first s.active) i e in
+    let f : Fits s (is_exiting t) (Seizing room ticket first s.active) =
+    fits_at s ps t c (Seizing room ticket first s.active) i e in
     let small : room < length s.wait = within s.wait room (omega (arith, f.0.some, f.0.drawn)) in
-    let turn : turn_of (pack (turn_of s.active + 1) (room + 1)) ≡ turn_of s.active + 1 = turn_of_pack (turn_of s.active + 1) (room + 1) (omega (arith, small, i.few)) in
-    sums_still n s ps made _ c (Counting room ticket first (turn_of s.active + 1)) (pack (turn_of s.active + 1) (room + 1)) s.done h k (omega (arith, turn, (m.idle f.1).0)) tt
-sums_went n c s ps t made p act row few (counted_wait room ticket first turn) i m h e free k = sums_still n s ps made _ c _ s.active s.done h k k.turn tt
-sums_went n c s ps t made p act row few (opened room first turn to) i m h e free k = sums_opened n s ps made t c room 0 first turn to Out i h e k tt
-sums_went n c s ps t made p act row few (opened_in room ticket first turn to) i m h e free k = sums_opened n s ps made t c room (suc ticket) first turn to (Inside room (suc ticket) first turn to) i h e k tt
-sums_went n c s ps t made p act row few (left room ticket first turn to short) i m h e free k = sums_still n s ps made _ c Out s.active (set s.done room (get_or s.done room 0 + 1)) h k k.turn tt
-sums_went n c s ps t made p act row few (left_last room ticket first turn to full) i m h e free k = sums_still n s ps made _ c (Exiting room turn) s.active (set s.done room (get_or s.done room 0 + 1)) h k k.turn tt
-sums_went n c s ps t made p act row few (exited room turn) i m h e free k = sums_still n s ps made _ c _ s.active s.done h k k.turn tt
-sums_went n c s ps t made p act row few (chose room turn k' w lt) i m h e free k = sums_still n s ps made _ c _ s.active s.done h k k.turn tt
-sums_went n c s ps t made p act row few (ended room turn w le) i m h e free k = sums_still n s ps made _ c _ s.active s.done h k k.turn tt
-sums_went n c s ps t made p act row few (went_on room turn k' w le ne) i m h e free k = sums_still n s ps made _ c _ s.active s.done h k k.turn tt
-sums_went n c s ps t made p act row few (scanned room turn k') i m h e free k = sums_still n s ps made _ c _ s.active s.done h k k.turn tt
+    let turn : turn_of (pack (turn_of s.active + 1) (room + 1)) ≡ turn_of s.active + 1 =
+    turn_of_pack (turn_of s.active + 1) (room + 1) (omega (arith, small, i.few)) in
+    sums_still n s ps made _ c (Counting room ticket first (turn_of s.active + 1))
+    (pack (turn_of s.active + 1) (room + 1)) s.done h k (omega (arith, turn, (m.idle f.1).0)) tt
+sums_went n c s ps t made p act row few (counted_wait room ticket first turn) i m h e free k =
+    sums_still n s ps made _ c _ s.active s.done h k k.turn tt
+sums_went n c s ps t made p act row few (opened room first turn to) i m h e free k =
+    sums_opened n s ps made t c room 0 first turn to Out i h e k tt
+sums_went n c s ps t made p act row few (opened_in room ticket first turn to) i m h e free k =
+    sums_opened n s ps made t c room (suc ticket) first turn to
+    (Inside room (suc ticket) first turn to) i h e k tt
+sums_went n c s ps t made p act row few (left room ticket first turn to short) i m h e free k =
+    sums_still n s ps made _ c Out s.active (set s.done room (get_or s.done room 0 + 1)) h k k.turn
+    tt
+sums_went n c s ps t made p act row few (left_last room ticket first turn to full) i m h e free k =
+    sums_still n s ps made _ c (Exiting room turn) s.active
+    (set s.done room (get_or s.done room 0 + 1)) h k k.turn tt
+sums_went n c s ps t made p act row few (exited room turn) i m h e free k =
+    sums_still n s ps made _ c _ s.active s.done h k k.turn tt
+sums_went n c s ps t made p act row few (chose room turn k' w lt) i m h e free k =
+    sums_still n s ps made _ c _ s.active s.done h k k.turn tt
+sums_went n c s ps t made p act row few (ended room turn w le) i m h e free k =
+    sums_still n s ps made _ c _ s.active s.done h k k.turn tt
+sums_went n c s ps t made p act row few (went_on room turn k' w le ne) i m h e free k =
+    sums_still n s ps made _ c _ s.active s.done h k k.turn tt
+sums_went n c s ps t made p act row few (scanned room turn k') i m h e free k =
+    sums_still n s ps made _ c _ s.active s.done h k k.turn tt
 sums_went n c s ps t made p act row few (passed turn k') i m h e free k =
-    let f : Fits s (is_exiting t) (Passing turn (Some k')) = fits_at s ps t c (Passing turn (Some k')) i e in
+    let f : Fits s (is_exiting t) (Passing turn (Some k')) =
+    fits_at s ps t c (Passing turn (Some k')) i e in
     let small : k' < length s.wait = within s.wait k' (omega (arith, f.1)) in
-    let turn_is : turn_of (pack (turn + 1) (k' + 1)) ≡ turn + 1 = turn_of_pack (turn + 1) (k' + 1) (omega (arith, small, i.few)) in
-    let mm : (openings t ≡ turn_of s.active) × _ = subst (MarkAt (turn_of s.active) (openings t) (is_closing t) (is_exiting t) (last_opening t)) e (m.each c) in
-    sums_still n s ps made _ c (Counting k' 0 None (turn + 1)) (pack (turn + 1) (k' + 1)) s.done h k (omega (arith, turn_is, f.0.turn_is, mm.0)) tt
+    let turn_is : turn_of (pack (turn + 1) (k' + 1)) ≡ turn + 1 =
+    turn_of_pack (turn + 1) (k' + 1) (omega (arith, small, i.few)) in
+    let mm : (openings t ≡ turn_of s.active) × _ =
+    subst
+    (MarkAt (turn_of s.active) (openings t) (is_closing t) (is_exiting t) (last_opening t)) e
+    (m.each c) in
+    sums_still n s ps made _ c (Counting k' 0 None (turn + 1)) (pack (turn + 1) (k' + 1)) s.done h k
+    (omega (arith, turn_is, f.0.turn_is, mm.0)) tt
 sums_went n c s ps t made p act row few (rested turn) i m h e free k =
     let f : Fits s (is_exiting t) (Passing turn None) = fits_at s ps t c (Passing turn None) i e in
-    sums_still n s ps made _ c Out (pack turn 0) s.done h k (omega (arith, turn_of_pack turn 0 (omega arith), f.0.turn_is, k.turn)) tt
-sums_went n c s ps t made p act row few went i m h e free k = sums_still n s ps made _ c _ s.active s.done h k k.turn tt
+    sums_still n s ps made _ c Out (pack turn 0) s.done h k
+    (omega (arith, turn_of_pack turn 0 (omega arith), f.0.turn_is, k.turn)) tt
+sums_went n c s ps t made p act row few went i m h e free k =
+    sums_still n s ps made _ c _ s.active s.done h k k.turn tt
 
 -- what a row writes exists and fits
-pub can_touch : (n c : ℕ) (s : Words) (ps : List Phase) (t : List Item) (made : List ℕ) (p : Phase) (act : Act) (row : Row) → n ≤ 64 → Went c s p act row → Inv s ps t → c < length ps → phase ps c ≡ p → Sums n s ps made (openings t) → CanTouch s row.1.touch
-can_touch n c s ps t made p act row few (drawn r hr) i h e k = (hr, omega (arith, wait_small n s ps t made few i k r))
+pub can_touch : (n c : ℕ) (s : Words) (ps : List Phase) (t : List Item) (made : List ℕ) (p : Phase) (act : Act) (row : Row)
+    → n ≤ 64 → Went c s p act row → Inv s ps t → c < length ps → phase ps c ≡ p
+    → Sums n s ps made (openings t) → CanTouch s row.1.touch
+can_touch n c s ps t made p act row few (drawn r hr) i h e k =
+    (hr, omega (arith, wait_small n s ps t made few i k r))
 can_touch n c s ps t made p act row few (opened room first turn to) i h e k =
-    let f : Fits s (is_exiting t) (Admitting room 0 first turn to) = fits_at s ps t c (Admitting room 0 first turn to) i e in omega (arith, within s.wait room (omega (arith, f.0.more)), i.grants)
+    let f : Fits s (is_exiting t) (Admitting room 0 first turn to) =
+    fits_at s ps t c (Admitting room 0 first turn to) i e in
+    omega (arith, within s.wait room (omega (arith, f.0.more)), i.grants)
 can_touch n c s ps t made p act row few (opened_in room ticket first turn to) i h e k =
-    let f : Fits s (is_exiting t) (Admitting room (suc ticket) first turn to) = fits_at s ps t c (Admitting room (suc ticket) first turn to) i e in omega (arith, within s.wait room (omega (arith, f.0.more)), i.grants)
+    let f : Fits s (is_exiting t) (Admitting room (suc ticket) first turn to) =
+    fits_at s ps t c (Admitting room (suc ticket) first turn to) i e in
+    omega (arith, within s.wait room (omega (arith, f.0.more)), i.grants)
 can_touch n c s ps t made p act row few (left room ticket first turn to short) i h e k =
-    let f : Fits s (is_exiting t) (Inside room ticket first turn to) = fits_at s ps t c (Inside room ticket first turn to) i e in
-    (omega (arith, within s.wait room (omega (arith, f.0.some, f.0.granted, i.granted room)), i.dones), omega (arith, done_small n s ps t made few i k room))
+    let f : Fits s (is_exiting t) (Inside room ticket first turn to) =
+    fits_at s ps t c (Inside room ticket first turn to) i e in (
+      omega
+          (arith, within s.wait room (omega (arith, f.0.some, f.0.granted, i.granted room)), i.dones),
+      omega (arith, done_small n s ps t made few i k room),
+    )
 can_touch n c s ps t made p act row few (left_last room ticket first turn to full) i h e k =
-    let f : Fits s (is_exiting t) (Inside room ticket first turn to) = fits_at s ps t c (Inside room ticket first turn to) i e in
-    (omega (arith, within s.wait room (omega (arith, f.0.some, f.0.granted, i.granted room)), i.dones), omega (arith, done_small n s ps t made few i k room))
+    let f : Fits s (is_exiting t) (Inside room ticket first turn to) =
+    fits_at s ps t c (Inside room ticket first turn to) i e in (
+      omega
+          (arith, within s.wait room (omega (arith, f.0.some, f.0.granted, i.granted room)), i.dones),
+      omega (arith, done_small n s ps t made few i k room),
+    )
 can_touch n c s ps t made p act row few went i h e k = tt

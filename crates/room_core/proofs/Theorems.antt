@@ -22,13 +22,20 @@ module _ (rooms callers : ℕ) (acts : List (ℕ × Act)) (few : rooms ≤ 7) wh
   w = run acts (start rooms callers)
 
   pub is_apart : IsApart (trace_of (moments rooms callers acts))
-  is_apart = subst IsApart (sym (trace_of-reverse w.history)) (apart_in_order (trace w.history) (run_kept acts (start rooms callers) (start_good rooms callers few)).apart)
+  is_apart =
+      subst IsApart (sym (trace_of-reverse w.history))
+      (apart_in_order (trace w.history)
+      (run_kept acts (start rooms callers) (start_good rooms callers few)).apart)
 
   pub exits_once : IsOncePerOpening (trace_of (moments rooms callers acts))
-  exits_once = subst IsOncePerOpening (sym (trace_of-reverse w.history)) (once_in_order (trace w.history) (once_back w.history (run_lawful rooms callers acts few)))
+  exits_once =
+      subst IsOncePerOpening (sym (trace_of-reverse w.history))
+      (once_in_order (trace w.history) (once_back w.history (run_lawful rooms callers acts few)))
 
   pub admits : IsAdmission (moments rooms callers acts)
   admits = admission_in_order w.history (run_lawful rooms callers acts few)
 
   pub is_prompt : IsPrompt rooms (moments rooms callers acts)
-  is_prompt = prompt_in_order rooms w.history (run_lawful rooms callers acts few) (run_prompt rooms callers acts few)
+  is_prompt =
+      prompt_in_order rooms w.history (run_lawful rooms callers acts few)
+      (run_prompt rooms callers acts few)

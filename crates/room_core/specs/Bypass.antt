@@ -1,5 +1,5 @@
 -- How many openings a ticket may wait.
-use Rattle.std.specs.Prelude.{◌≡◌, ℕ, ◌+◌, ◌≤◌, ◌==◌, ◌&&◌, ◌||◌, Bool, true, false, List, ◌∷◌, ◌++◌, count_by, Contains}
+use Rattle.std.specs.Prelude.{◌≡◌, ℕ, ◌+◌, ◌-◌, ◌≤◌, ◌==◌, ◌&&◌, ◌||◌, nat_lt, Bool, true, false, List, ◌∷◌, ◌++◌, count_by, Contains}
 use Rattle.room_core.specs.declared.acts.Act.TheVariants.{Draw}
 use Rattle.room_core.specs.declared.words.Touch.{Touch}
 use Rattle.room_core.specs.declared.words.Touch.TheVariants.{Load}
@@ -36,9 +36,18 @@ pub record FirstLook (moments : List Moment) (room ticket turn : ℕ) : Type 0 w
   pub turn_is : turn ≡ turn_of word
   pub first : count_by (is_look_of draw.caller) between ≡ 0
 
--- the opening that lets the ticket in comes at the turn first seen, or at most as many turns later
--- as there are rooms
+-- the opening comes in a turn strictly between the two
+abbrev pub is_between : ℕ → ℕ → Opening → Bool
+is_between first last o = nat_lt first o.turn && nat_lt o.turn last
+
+-- how long a ticket waits, in openings
 pub record IsPrompt (rooms : ℕ) (moments : List Moment) : Type 0 where
+  -- the opening that lets the ticket in comes at the turn first seen, or at most as many turns later
+  -- as there are rooms
   pub each : (room ticket first : ℕ) (o : Opening) → FirstLook moments room ticket first
       → Contains (openings_of moments) o → Admits o room ticket
       → (first ≤ o.turn) × (o.turn ≤ first + rooms)
+  -- so there is less than one opening a room in between
+  pub between : (room ticket first : ℕ) (o : Opening) → FirstLook moments room ticket first
+      → Contains (openings_of moments) o → Admits o room ticket
+      → count_by (is_between first o.turn) (openings_of moments) ≤ rooms - 1

@@ -13,6 +13,7 @@ pub mod ExitOnce
 pub mod Admission
 pub mod Choice
 pub mod Bypass
+pub mod Wrong
 pub mod Trace
 pub mod Gate
 pub mod Core

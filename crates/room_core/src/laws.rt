@@ -11,6 +11,7 @@ ghost use Rattle.room_core.specs.ExitOnce.{IsOncePerOpening};
 ghost use Rattle.room_core.specs.Admission.{IsAdmission};
 ghost use Rattle.room_core.specs.Choice.{IsCyclic};
 ghost use Rattle.room_core.specs.Bypass.{IsPrompt};
+ghost use Rattle.room_core.specs.Wrong.{two_rooms, early_exit, no_opening, own_room_first, passed_by};
 
 use crate::acts::Act;
 use crate::items::Item;
@@ -57,4 +58,13 @@ pub fn a_trace_reads_backward()
     ensures last { (past : List Item) → last_opening past ≡ last_opened (reverse past) }
     ensures occupants { (past : List Item) (c room : ℕ)
         → (occupant c past ≡ Some room) ↔ Occupies (reverse past) c room }
+{}
+
+/// Each of these laws refuses something.
+pub fn wrong_runs_are_refused()
+    ensures apart { IsApart two_rooms → ⊥ }
+    ensures exit_once { IsOncePerOpening early_exit → ⊥ }
+    ensures admission { IsAdmission no_opening → ⊥ }
+    ensures cyclic { IsCyclic 2 own_room_first → ⊥ }
+    ensures prompt { IsPrompt 1 passed_by → ⊥ }
 {}

@@ -145,6 +145,40 @@ fn schedules_lead_to_their_traces(rt: HostRuntime) -> Result<(), Fail> {
             active: 17,
             phases: &["Out", "Inside"],
         },
+        // A late ticket waits while each other room opens once, and no longer.
+        Case {
+            rooms: 2,
+            callers: 3,
+            acts: &[
+                (0, Act::Draw(0), 1),
+                (0, Act::Step, 5),
+                (1, Act::Draw(0), 1),
+                (1, Act::Step, 2),
+                (2, Act::Draw(1), 1),
+                (0, Act::Leave, 1),
+                (0, Act::Step, 5),
+                (2, Act::Step, 2),
+                (2, Act::Leave, 1),
+                (2, Act::Step, 5),
+                (1, Act::Step, 2),
+            ],
+            trace: &[
+                opened(1, 0, 0, 1),
+                Item::Entered { caller: 0, room: 0 },
+                Item::Left { caller: 0 },
+                Item::ExitBegun { room: 0 },
+                Item::ExitEnded { room: 0 },
+                opened(2, 1, 0, 1),
+                Item::Entered { caller: 2, room: 1 },
+                Item::Left { caller: 2 },
+                Item::ExitBegun { room: 1 },
+                Item::ExitEnded { room: 1 },
+                opened(3, 0, 1, 2),
+                Item::Entered { caller: 1, room: 0 },
+            ],
+            active: 25,
+            phases: &["Out", "Inside", "Out"],
+        },
     ];
     for case in &cases {
         assert!(rt; 0 < case.rooms && case.rooms <= 7 && case.callers <= 64);

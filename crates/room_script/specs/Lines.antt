@@ -3,9 +3,11 @@ use Rattle.std.specs.Prelude.{◌≡◌, ℕ, ◌+◌, ◌≤◌, ◌==◌, Bool
 use Rattle.std.specs.List.{slice_split}
 use Rattle.room_script.specs.declared.pieces.Piece.{Piece}
 
+-- the byte between lines
 abbrev pub is_newline : ℕ → Bool
 is_newline byte = byte == 10
 
+-- the byte between parts
 abbrev pub is_space : ℕ → Bool
 is_space byte = byte == 32
 
@@ -38,7 +40,7 @@ places_of at [] = []
 places_of at (part ∷ more) =
     record { from = at; to = at + length part } ∷ places_of (at + length part + 1) more
 
--- these parts of a text stand at these pieces, from a place on
+-- these parts of a text stand at these pieces, one after another from a place on
 pub record StandAt (text : List ℕ) (start : ℕ) (parts : List (List ℕ)) (pieces : List Piece) : Type 0 where
   pub bytes : map (bytes_at text) pieces ≡ parts
   pub places : pieces ≡ places_of start parts

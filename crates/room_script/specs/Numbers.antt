@@ -1,7 +1,7 @@
 -- Numbers in a text.
 use Rattle.std.specs.Prelude.{◌≡◌, ℕ, ◌^◌, ◌<◌, List, ◌++◌, codes, decimal}
 
--- the bytes are the decimal digits of a number that fits 64 bits
+-- the bytes are the digits of a number that fits 64 bits, as printed: no sign, no leading zero
 pub record IsNumber (bytes : List ℕ) (n : ℕ) : Type 0 where
   pub fits : n < 2 ^ 64
   pub digits : bytes ≡ decimal n

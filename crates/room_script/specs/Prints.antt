@@ -17,6 +17,7 @@ item_line (Left caller) = codes "leave " ++ decimal caller
 item_line (ExitBegun room) = codes "exit " ++ (decimal room ++ codes " begin")
 item_line (ExitEnded room) = codes "exit " ++ (decimal room ++ codes " end")
 
+-- the name of a phase
 abbrev pub phase_name : Phase → List ℕ
 phase_name Out = codes "Out"
 phase_name (Looking room ticket first) = codes "Looking"
@@ -31,9 +32,11 @@ phase_name (Peering room turn k w) = codes "Peering"
 phase_name (Scanning room turn k) = codes "Scanning"
 phase_name (Passing turn next) = codes "Passing"
 
+-- the line of the active word
 abbrev pub active_line : ℕ → List ℕ
 active_line word = codes "active " ++ decimal word
 
+-- the line of a caller
 abbrev pub caller_line : ℕ → Phase → List ℕ
 caller_line caller phase = codes "caller " ++ (decimal caller ++ (codes " " ++ phase_name phase))
 

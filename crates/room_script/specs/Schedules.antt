@@ -10,15 +10,19 @@ pub record Plan : Type 0 where
   pub callers : ℕ
   pub acts : List (ℕ × Act)
 
+-- what a schedule in memory says
 abbrev pub plan_of : Schedule → Plan
 plan_of s = record { rooms = s.rooms; callers = s.callers; acts = s.acts.items }
 
+-- the line of the number of rooms
 abbrev pub rooms_line : ℕ → List ℕ
 rooms_line rooms = codes "rooms " ++ decimal rooms
 
+-- the line of the number of callers
 abbrev pub callers_line : ℕ → List ℕ
 callers_line callers = codes "callers " ++ decimal callers
 
+-- the line of an act, with its caller first
 abbrev pub act_line : ℕ × Act → List ℕ
 act_line (caller, Draw room) = codes "draw " ++ (decimal caller ++ (codes " " ++ decimal room))
 act_line (caller, Step) = codes "step " ++ decimal caller

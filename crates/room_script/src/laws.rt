@@ -2,7 +2,8 @@ ghost use Rattle.std.specs.Prelude.{◌≡◌, ◌⊎◌, ℕ, List};
 ghost use Rattle.room_script.specs.Breaks.{BreaksAt};
 ghost use Rattle.room_script.specs.Schedules.{Plan, Spells, IsSchedule};
 
-/// The lines of a text are those of one schedule, or one line is the first that breaks the rules.
+/// The lines of each text are those of exactly one schedule, or else exactly one line is the first
+/// that breaks the rules.
 pub fn each_text_is_judged()
     ensures either { (lines : List (List ℕ))
         → IsSchedule lines ⊎ ((k : ℕ) × BreaksAt IsSchedule lines k) }

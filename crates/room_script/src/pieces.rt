@@ -7,7 +7,9 @@ use std::alloc::{AllocError, Global};
 /// A range of a text: its bytes from `from` up to, not including, `to`.
 #[derive(Clone, Copy, Debug, PartialEq, Eq)]
 pub struct Piece {
+    /// The place of its first byte.
     pub from: usize,
+    /// The place after its last byte; `from` where it is empty.
     pub to: usize,
 }
 
@@ -48,7 +50,8 @@ fn cut(
 ) -> Result<(Vec<Piece>, Piece), AllocError>
     requires { IsRange text.now whole }
     ensures { IfOk result (λ cut. StandAt text.now whole.from
-        (slice_split (λ b. b == separator) (bytes_at text.now whole)) (cut.0.items ++ cut.1 ∷ [])) }
+        (slice_split (λ b. b == separator) (bytes_at text.now whole))
+        (cut.0.items ++ cut.1 ∷ [])) }
 {
     let mut pieces = Vec::new(alloc);
     let mut from = whole.from;

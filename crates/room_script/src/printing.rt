@@ -53,7 +53,8 @@ fn print_active(text: &mut String, word: u64) -> Result<(), AllocError>
 
 fn print_caller(text: &mut String, caller: u32, phase: &Phase) -> Result<(), AllocError>
     ensures { OnOk result
-        (string_bytes text.new ≡ string_bytes text.old ++ (caller_line caller phase.now ++ codes "\n")) }
+        (string_bytes text.new
+        ≡ string_bytes text.old ++ (caller_line caller phase.now ++ codes "\n")) }
 {
     let name = phase_name(phase);
     writeln!(text, "caller {caller} {name}")
