@@ -52,12 +52,36 @@ pub fn run<S: Source, K: Sink, N: Sink>(
     ensures complete { (command : Command) → Names (map string_bytes words.now) command → IfSome (S.left source.old) (λ input.
         ¬ Rose (S.faults source.old) (S.faults source.new) → ¬ Rose (K.faults sink.old) (K.faults sink.new) → IsAnswered command input result) }
 {
-    let status = match named_command(words) {
-        Some(command) => perform(alloc, command, source, sink),
-        None => Status::Words,
-    };
+    let status = answer(alloc, words, source, sink);
     give_note(notes, status);
     status
+}
+
+/// Performs the command that the words name, if they name one.
+fn answer<S: Source, K: Sink>(
+    alloc: Global,
+    words: &[String],
+    source: &mut S,
+    sink: &mut K,
+) -> Status
+    ensures words { (result ≡ Status.Words) ↔ ((command : Command) → ¬ Names (map string_bytes words.now) command) }
+    ensures unread { result ≡ Status.Words → source.new ≡ source.old }
+    ensures good { (command : Command) → Names (map string_bytes words.now) command → result ≡ Status.Good
+        → WroteAll command (S.left source.old) (S.left source.new) (K.written sink.old) (K.written sink.new) }
+    ensures refused { (command : Command) → Names (map string_bytes words.now) command → IsRefusal result
+        → WasRefused command (S.left source.old) (S.left source.new) result }
+    ensures read { result ≡ Status.ReadFault → Rose (S.faults source.old) (S.faults source.new) }
+    ensures write { result ≡ Status.WriteFault → Rose (K.faults sink.old) (K.faults sink.new) }
+    ensures cut { (command : Command) → Names (map string_bytes words.now) command → result ≡ Status.WriteFault
+        → WrotePart command (S.left source.old) (S.left source.new) (K.written sink.old) (K.written sink.new) }
+    ensures unwritten { result ≢ Status.Good → result ≢ Status.WriteFault → sink.new ≡ sink.old }
+    ensures complete { (command : Command) → Names (map string_bytes words.now) command → IfSome (S.left source.old) (λ input.
+        ¬ Rose (S.faults source.old) (S.faults source.new) → ¬ Rose (K.faults sink.old) (K.faults sink.new) → IsAnswered command input result) }
+{
+    match named_command(words) {
+        Some(command) => perform(alloc, command, source, sink),
+        None => Status::Words,
+    }
 }
 
 /// Performs `schedule` from the source to the sink, and leaves a note as `run` does. It waits for
