@@ -1,0 +1,10 @@
+pub mod Shows
+pub mod Entering
+pub mod Making
+pub mod Answers
+pub mod Rows
+pub mod PassModel
+pub mod WaitingModel
+pub mod InsideModel
+pub mod NoteModel
+pub mod RoomsModel

@@ -1,0 +1,189 @@
+-- The close: all passes go into one seat, which keeps their last views.
+use Rattle.std.proofs.Common.{◌≡◌, ◌≢◌, ℕ, zero, suc, ◌<◌, ⊎_elim, Bool, true, false, cond, eqb, List, [], ◌∷◌, ◌++◌, set, sym, refl, ap, ◌∙◌, subst}
+use mathlib.Core.Option.{some-injective}
+use Rattle.std.proofs.lemmas.Bool.{eq-eqb, ne_eqb}
+use Rattle.atomic_table.specs.Table.{Enters, Joins, Final, Seen}
+use Rattle.atomic_table.proofs.Lists.{at_set, at_snoc, set_else}
+use Rattle.room_core.specs.declared.phases.Phase.TheVariants.{Out}
+use Rattle.room_core.specs.Words.{listed}
+use Rattle.room_core.specs.Runs.{World}
+use Rattle.room_core.specs.Machine.{phase_of}
+use Rattle.room_core.specs.Trace.{trace}
+use Rattle.room_core.specs.Trace.{openings}
+use Rattle.room_core.specs.Gate.{Shut, gate}
+use Rattle.room_core.proofs.Facts.{all_out}
+use Rattle.room_core.proofs.Listed.{length-listed}
+use Rattle.room_rule.specs.Use.{IsAt, Meaning}
+use Rattle.room_rule.specs.View.{keeper, gone, taken_in}
+use Rattle.room_rule.specs.Rule.{Roll, IsTakenIn, Knows, Ruled}
+use Rattle.room_rule.specs.Closes.{IsIn, Ends}
+use Rattle.room_rule.specs.declared.rule.Plan.{Plan}
+use Rattle.room_rule.specs.declared.views.Role.{Role}
+use Rattle.room_rule.specs.declared.views.Role.TheVariants.{Maker, Pass, Note, Keeper, Gone}
+use Rattle.room_rule.specs.declared.views.Ended.{Ended}
+use Rattle.room_rule.specs.declared.views.Shown.{Shown}
+use Rattle.room_rule.proofs.Lists.{each_place, none_there}
+use Rattle.room_rule.proofs.Acts.{Table, Rule, mine, sizes_of}
+use Rattle.room_rule.proofs.Seats.{with_views, So, Kept}
+
+keeper_not : Keeper ≡ Pass → ⊥
+keeper_not e = cc
+
+gone_not : Gone ≡ Pass → ⊥
+gone_not e = cc
+
+here_either : (b : Bool) (x id : ℕ) → x ≡ id → cond b id x ≡ id
+here_either true x id e = refl
+here_either false x id e = e
+
+-- the caller's seat is the keeper's from now on
+abbrev with_keeper : Roll → ℕ → ℕ → Roll
+with_keeper roll who id =
+    record {
+      seat_of = λ c. cond (eqb c who) id (roll.seat_of c);
+      maker = roll.maker;
+      made =
+          roll.made;
+    }
+
+-- what another seat shows stays so, where one caller goes to the keeper
+still_so : {V : Type 0} (world : World) (views : List V) (roll : Roll) (who id other j : ℕ)
+    → roll.seat_of who ≡ other → j ≢ other → (role : Role) (x : Shown V)
+    → Knows world views roll j role x → Knows world views (with_keeper roll who id) j role x
+still_so world views roll who id other j was apart Maker x h = h
+still_so world views roll who id other j was apart Note x h = h
+still_so world views roll who id other j was apart Gone x h = tt
+still_so world views roll who id other j was apart Pass x h =
+    let ne : x.who ≢ who = λ e. apart (sym h.seat ∙ (ap roll.seat_of e ∙ was)) in
+    record {
+      seat = ap (λ (b : Bool). cond b id (roll.seat_of x.who)) (ne_eqb x.who who ne) ∙ h.seat;
+      made = h.made;
+      phase = h.phase;
+      draws = h.draws;
+      user = h.user;
+      seen = h.seen;
+      known = h.known;
+    }
+still_so world views roll who id other j was apart Keeper x h = λ i e at.
+    let q = h i e at in
+    let ne : e.who ≢ who = λ f. apart (sym q.seat ∙ (ap roll.seat_of f ∙ was)) in
+    record {
+      seat = ap (λ (b : Bool). cond b id (roll.seat_of e.who)) (ne_eqb e.who who ne)
+          ∙ q.seat;
+      made = q.made;
+      out = q.out;
+      user = q.user;
+    }
+
+module _ {X V : Type 0} (M : Meaning X V) (m : ℕ) (k : Plan X) where
+  -- a new seat is a keeper that has taken in no pass
+  pub keeper_enters : (slots word : ℕ)
+      → Enters (Ruled M m k) slots word (λ n w. w ≡ keeper M.starts)
+  keeper_enters slots word s r _ _ =
+      let new = keeper M.starts in (
+        new,
+        with_views M m k s r (s.views ++ new ∷ [])
+            (λ j d e. ⊎_elim (λ f. r.each j d f)
+            (λ (t : new ≡ d). subst (λ (z : Shown V). So M m k s r j z) t
+            (λ i x at. absurd (none_there i x at))) (at_snoc s.views new d j e))
+            (λ j d e. ⊎_elim (λ f. r.kept j d f)
+            (λ (t : new ≡ d). subst (λ (z : Shown V). Kept M m k s r j z) t
+            (λ f. absurd (keeper_not f))) (at_snoc s.views new d j e)),
+        refl,
+      )
+
+  -- all passes of the keeper, with one more
+  all_in : (s : Table M m k) (r : Rule M m k s) (id : ℕ) (v w : Shown V)
+      → Knows r.world r.content.views r.roll id Keeper v
+      → w.who < r.roll.made → phase_of r.world.state w.who ≡ Out → IsAt r.content.views w.who w.user
+      → (i : ℕ) (e : Ended V) → IsAt (taken_in v w).ended i e
+      → IsTakenIn r.world r.content.views (with_keeper r.roll w.who id) id e
+  all_in s r id v w mine made out user zero e at =
+      let same : record { who = w.who; user = w.user } ≡ e =
+      some-injective (record { who = w.who; user = w.user }) e at in
+      subst (λ (z : Ended V).
+      IsTakenIn r.world r.content.views (with_keeper r.roll w.who id) id z) same
+      (record {
+        seat = ap (λ (b : Bool). cond b id (r.roll.seat_of w.who))
+            (eq-eqb w.who w.who refl);
+        made = made;
+        out = out;
+        user = user;
+      })
+  all_in s r id v w mine made out user (suc i) e at = let q = mine i e at in
+      record {
+        seat = here_either (eqb e.who w.who) (r.roll.seat_of e.who) id q.seat;
+        made =
+            q.made;
+        out = q.out;
+        user = q.user;
+      }
+
+  -- the keeper takes in a pass
+  pub keeper_joins : (id : ℕ) (v : Shown V) (other : ℕ) (w : Shown V) → v.role ≡ Keeper
+      → w.role ≡ Pass → w.phase ≡ Out
+      → Joins (Ruled M m k) id v other w (taken_in v w) (gone M.starts)
+  keeper_joins id v other w is its_role out s r at apart there =
+      let now = taken_in v w in let end = gone M.starts in
+      let was : IsAt s.views other w = sym (set_else s.views id other now apart) ∙ there in
+      let roll' = with_keeper r.roll w.who id in
+      let So' : ℕ → Shown V → Type 0 = λ j d. Knows r.world r.content.views roll' j d.role d in
+      let mine_ = subst (λ (z : Role). Knows r.world r.content.views r.roll id z v) is
+      (r.each id v at) in
+      let its = mine M m k s r other w was its_role in
+      let so : So' id now =
+      subst (λ (z : Role). Knows r.world r.content.views roll' id z now) (sym is)
+      (all_in s r id v w mine_ its.made (its.phase ∙ out) its.user) in
+      record {
+        world = r.world;
+        reached = r.reached;
+        content = r.content;
+        words = r.words;
+        sized = r.sized;
+        crowd = r.crowd;
+        few_callers = r.few_callers;
+        few_rooms = r.few_rooms;
+        roll = roll';
+        few_made = r.few_made;
+        each = λ j d e. ⊎_elim
+            (λ (t : (j ≡ other) × (end ≡ d)). subst (λ (z : Shown V). So' j z) t.1 tt)
+            (λ (t : (j ≢ other) × IsAt (set s.views id now) j d). ⊎_elim
+            (λ (q : (j ≡ id) × (now ≡ d)).
+            subst (λ (z : ℕ × Shown V). So' z.0 z.1) (λ i. (sym q.0 i, q.1 i)) so)
+            (λ (q : (j ≢ id) × IsAt s.views j d).
+            still_so r.world r.content.views r.roll w.who id other j its.seat t.0 d.role d
+            (r.each j d q.1))
+            (at_set s.views id j now d t.1))
+            (at_set (set s.views id now) other j end d e);
+        unmade = r.unmade;
+        kept = each_place (Kept M m k s r) (set s.views id now) other end (λ e. absurd (gone_not e))
+            (λ j d _ e. each_place (Kept M m k s r) s.views id now
+            (λ f. absurd (keeper_not (sym is ∙ f))) (λ i x _ f. r.kept i x f) j d e);
+        lawful = r.lawful;
+        past = r.past;
+        waits = r.waits;
+      }
+
+  -- the table at the end, where the keeper has each pass
+  pub ends_with : (id : ℕ) (v : Shown V) (ws : List ℕ) (xs : List (Unit {0})) → v.role ≡ Keeper
+      → ((c : ℕ) → c < k.callers → IsIn v.ended c) → Final (Seen (Ruled M m k) id v) ws xs
+      → Ends M m k v.ended ws
+  ends_with id v ws xs is all f =
+      let s = f.0 in let r = f.1.0 in
+      let mine_ = subst (λ (z : Role). Knows r.world r.content.views r.roll id z v) is
+      (r.each id v f.1.1) in
+      let shut : gate (trace r.world.history) ≡ Shut (openings (trace r.world.history)) =
+      all_out m k.callers r.few_rooms r.few_callers r.world r.reached
+      (λ c under. let a = all c under in
+      ap (phase_of r.world.state) (sym a.1.2) ∙ (mine_ a.0 a.1.0 a.1.1).out) in
+      record {
+        rooms = listed r.world.state.words;
+        content = r.content;
+        words = sym f.2 ∙ r.words;
+        long = length-listed m r.world.state.words (sizes_of M m k s r);
+        sized = r.sized;
+        crowd = r.crowd;
+        each = λ i e at. (mine_ i e at).user;
+        turn = openings (trace r.world.history);
+        lawful = subst (M.lawful k.usage r.content) shut r.lawful;
+      }

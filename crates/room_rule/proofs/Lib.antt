@@ -1,0 +1,11 @@
+pub mod Lists
+pub mod Opened
+pub mod Acts
+pub mod Events
+pub mod Entering
+pub mod Leaving
+pub mod Seats
+pub mod Making
+pub mod UserSteps
+pub mod Closing
+pub mod Following

@@ -1,0 +1,91 @@
+-- Steps that change only what seats show: a note is made, and it is learned.
+use Rattle.std.proofs.Common.{◌≡◌, ℕ, ⊎_elim, ltb, List, [], ◌∷◌, ◌++◌, length, set, sym, ◌∙◌, subst}
+use Rattle.atomic_table.specs.Table.{Splits, Joins}
+use Rattle.atomic_table.proofs.Lists.{at_snoc, set_else}
+use Rattle.room_rule.specs.Use.{IsAt, Meaning}
+use Rattle.room_rule.specs.Openings.{openings_of}
+use Rattle.room_rule.specs.View.{noted, learned, gone}
+use Rattle.room_rule.specs.Rule.{Knows, ShowsKept, Ruled}
+use Rattle.room_rule.specs.declared.rule.Plan.{Plan}
+use Rattle.room_rule.specs.declared.views.Role.{Role}
+use Rattle.room_rule.specs.declared.views.Role.TheVariants.{Pass, Note, Gone}
+use Rattle.room_rule.specs.declared.views.Shown.{Shown}
+use Rattle.room_rule.proofs.Lists.{each_place, starts_either, among_first, among_both}
+use Rattle.room_rule.proofs.Acts.{Table, Rule, mine}
+
+gone_not : Gone ≡ Pass → ⊥
+gone_not e = cc
+
+note_not : Note ≡ Pass → ⊥
+note_not e = cc
+
+module _ {X V : Type 0} (M : Meaning X V) (m : ℕ) (k : Plan X) where
+  -- the rule with other views, each of which shows what is so
+  pub with_views : (s : Table M m k) (r : Rule M m k s) (views : List (Shown V))
+      → ((j : ℕ) (v : Shown V) → IsAt views j v → Knows r.world r.content.views r.roll j v.role v)
+      → ((j : ℕ) (v : Shown V) → IsAt views j v → ShowsKept M k.usage r.content.words v)
+      → Rule M m k (record { words = s.words; homes = s.homes; views = views })
+  with_views s r views each kept = record {
+    world = r.world;
+    reached = r.reached;
+    content = r.content;
+    words = r.words;
+    sized = r.sized;
+    crowd = r.crowd;
+    few_callers = r.few_callers;
+    few_rooms = r.few_rooms;
+    roll = r.roll;
+    few_made = r.few_made;
+    each = each;
+    unmade = r.unmade;
+    kept = kept;
+    lawful = r.lawful;
+    past = r.past;
+    waits = r.waits;
+  }
+
+  -- what the seat j shows is so, and so is what it shows of the words
+  abbrev pub So : (s : Table M m k) (r : Rule M m k s) → ℕ → Shown V → Type 0
+  So s r j v = Knows r.world r.content.views r.roll j v.role v
+
+  abbrev pub Kept : (s : Table M m k) (r : Rule M m k s) → ℕ → Shown V → Type 0
+  Kept s r j v = ShowsKept M k.usage r.content.words v
+
+  -- a note is learned
+  pub learns : (id : ℕ) (v : Shown V) (other : ℕ) (w : Shown V) → v.role ≡ Pass → w.role ≡ Note
+      → Joins (Ruled M m k) id v other w (learned v w) (gone M.starts)
+  learns id v other w is note s r at apart there =
+      let all = openings_of r.world in let now = learned v w in let end = gone M.starts in
+      let was : IsAt s.views other w = sym (set_else s.views id other now apart) ∙ there in
+      let its = subst (λ (z : Role). Knows r.world r.content.views r.roll other z w) note
+      (r.each other w was) in
+      let h = mine M m k s r id v at is in
+      let so : So s r id now =
+      subst (λ (z : Role). Knows r.world r.content.views r.roll id z now) (sym is) (record {
+        seat = h.seat;
+        made = h.made;
+        phase = h.phase;
+        draws = h.draws;
+        user = h.user;
+        seen = starts_either all v.seen w.seen (ltb (length v.seen) (length w.seen)) h.seen its;
+        known = among_both all w.seen v.known (among_first all w.seen its) h.known;
+      }) in
+      with_views s r (set (set s.views id now) other end)
+      (each_place (So s r) (set s.views id now) other end tt
+      (λ j d _ e. each_place (So s r) s.views id now so (λ i x _ f. r.each i x f) j d e))
+      (each_place (Kept s r) (set s.views id now) other end (λ e. absurd (gone_not e))
+      (λ j d _ e. each_place (Kept s r) s.views id now (r.kept id v at)
+      (λ i x _ f. r.kept i x f) j d e))
+
+  -- a note is made
+  pub notes : (id : ℕ) (v : Shown V) → v.role ≡ Pass → Splits (Ruled M m k) id v v (noted v)
+  notes id v is s r at = let h = mine M m k s r id v at is in
+      with_views s r (set s.views id v ++ noted v ∷ [])
+      (λ j d e. ⊎_elim (λ f.
+      each_place (So s r) s.views id v (r.each id v at) (λ i x _ g. r.each i x g) j d f)
+      (λ (t : noted v ≡ d). subst (λ (z : Shown V). So s r j z) t h.seen)
+      (at_snoc (set s.views id v) (noted v) d j e))
+      (λ j d e. ⊎_elim (λ f.
+      each_place (Kept s r) s.views id v (r.kept id v at) (λ i x _ g. r.kept i x g) j d f)
+      (λ (t : noted v ≡ d). subst (λ (z : Shown V). Kept s r j z) t (λ e. absurd (note_not e)))
+      (at_snoc (set s.views id v) (noted v) d j e))

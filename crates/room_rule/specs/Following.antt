@@ -1,0 +1,58 @@
+-- That the table follows the protocol: each step that a call may make is its caller's act, or none.
+use Rattle.std.specs.Prelude.{◌≡◌, ℕ, ◌+◌, ◌%◌, ◌^◌, ◌<◌, Option, Some}
+use Rattle.room_core.specs.declared.acts.Act.TheVariants.{Draw, Step, Leave}
+use Rattle.room_core.specs.declared.phases.Phase.{Phase}
+use Rattle.room_core.specs.declared.phases.Phase.TheVariants.{Out, Looking, Counting, Admitting, Inside, Exiting}
+use Rattle.room_core.specs.declared.words.Word.TheVariants.{Wait, Done}
+use Rattle.room_core.specs.Words.{place}
+use Rattle.room_core.specs.Moves.{Kind, Stores, Move, move, drawing_move, value_of}
+use Rattle.room_rule.specs.Use.{Meaning, RestsOn}
+use Rattle.room_rule.specs.View.{moved}
+use Rattle.room_rule.specs.Told.{Seated, stepped_by, left_by, IsEvent}
+use Rattle.room_rule.specs.declared.rule.Plan.{Plan}
+use Rattle.room_rule.specs.declared.views.Role.TheVariants.{Pass}
+use Rattle.room_rule.specs.declared.views.Shown.{Shown}
+
+-- the number that a step tells: the one stored, or else the one found
+abbrev pub told : Kind → ℕ → ℕ
+told (Stores value) n = value
+told _ n = n
+
+module _ {X V : Type 0} (M : Meaning X V) (rooms : ℕ) where
+  -- the room exists, and who ends its exit code shows words that rest
+  abbrev pub MayGo : X → Shown V → Phase → Type 0
+  MayGo x v (Looking room ticket first) = room < rooms
+  MayGo x v (Counting room ticket first turn) = room < rooms
+  MayGo x v (Admitting room ticket first turn to) = room < rooms
+  MayGo x v (Exiting room turn) = (0 < rooms) × RestsOn M x v.kept v.user
+  MayGo x v _ = Unit {0}
+
+  -- the step of the row of a caller's phase, on the word of that row
+  abbrev pub StepsAreActs : Type 0
+  StepsAreActs = (k : Plan X) (slots id : ℕ) (me : Seated V) (mv : Move)
+      → me.0.role ≡ Pass
+      → move rooms me.0.who me.0.phase ≡ Some mv
+      → MayGo k.usage me.0 me.0.phase
+      → IsEvent M rooms k slots id me (place rooms mv.word) (value_of mv.kind)
+      (λ n me'. stepped_by M rooms me (told mv.kind n) me') Step
+
+  -- the add by which a caller that is out draws
+  abbrev pub DrawsAreActs : Type 0
+  DrawsAreActs = (k : Plan X) (slots id : ℕ) (me : Seated V) (room : ℕ)
+      → me.0.role ≡ Pass
+      → me.0.phase ≡ Out
+      → room < rooms
+      → me.0.draws < 2 ^ 48
+      → M.may_enter k.usage me.0.user
+      → IsEvent M rooms k slots id me (place rooms (Wait room)) (λ n. (n + 1) % 2 ^ 64)
+      (λ n me'. me' ≡ (moved me.0 (Draw room) (drawing_move room) n me.0.seen, me.1)) (Draw room)
+
+  -- the add by which an insider leaves
+  abbrev pub LeavesAreActs : Type 0
+  LeavesAreActs = (k : Plan X) (slots id : ℕ) (me : Seated V) (room ticket turn to : ℕ)
+      (first : Option ℕ)
+      → me.0.role ≡ Pass
+      → me.0.phase ≡ Inside room ticket first turn to
+      → M.may_leave k.usage me.0.user
+      → IsEvent M rooms k slots id me (place rooms (Done room)) (λ n. (n + 1) % 2 ^ 64)
+      (λ n me'. left_by me n me') Leave

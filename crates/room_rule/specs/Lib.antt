@@ -1,0 +1,10 @@
+pub mod Use
+pub mod Laws
+pub mod Openings
+pub mod View
+pub mod Rule
+pub mod Told
+pub mod Steps
+pub mod Closes
+pub mod Plainly
+pub mod Following

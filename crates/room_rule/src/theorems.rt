@@ -1,0 +1,12 @@
+//! What holds of every table under the rule.
+ghost use Rattle.room_rule.specs.Following.{StepsAreActs, DrawsAreActs, LeavesAreActs};
+
+use crate::uses::RoomUse;
+
+/// The table follows the protocol, for every use: from any state that the rule allows, a caller's
+/// step on a word of the rooms is its act in the protocol, and leads to the state after that act.
+pub fn the_table_follows_the_protocol<U: RoomUse>()
+    ensures steps { StepsAreActs U.meaning U.ROOMS }
+    ensures draws { DrawsAreActs U.meaning U.ROOMS }
+    ensures leaves { LeavesAreActs U.meaning U.ROOMS }
+{}
