@@ -1,5 +1,5 @@
 -- An act of the protocol keeps the rule.
-use Rattle.std.proofs.Common.{◌≡◌, ℕ, ◌+◌, ◌*◌, ◌<◌, ◌≢◌, inl, inr, true, eqb, Ok, List, ◌∷◌, ◌++◌, length, get_or, set, sym, refl, ap, ◌∙◌, subst, arith}
+use Rattle.std.proofs.Common.{◌≡◌, ℕ, ◌+◌, ◌*◌, ◌<◌, ◌≢◌, inl, inr, true, eqb, Option, Ok, List, ◌∷◌, ◌++◌, length, get_or, set, sym, refl, ap, ◌∙◌, subst, arith}
 use mathlib.Core.Option.{some-injective}
 use lib.ListN.{get_elem?}
 use Rattle.std.proofs.lemmas.Bool.{cond-false, ne_eqb, cases_eq}
@@ -103,9 +103,9 @@ still_known w (Draw r) mv v n seen starts known =
 still_known w Step mv v n seen starts known = known
 still_known w Leave mv v n seen starts known = known
 
-module _ {X V : Type 0} (M : Meaning X V) (m : ℕ) (k : Plan X) where
+module _ {X S V : Type 0} (M : Meaning X S V) (m : ℕ) (k : Plan X) where
   abbrev pub Table : Type 0
-  Table = State (Unit {0}) (Shown V)
+  Table = State (Option S) (Shown V)
 
   abbrev pub Rule : Table → Type 0
   Rule = Ruled M m k
@@ -224,7 +224,7 @@ module _ {X V : Type 0} (M : Meaning X V) (m : ℕ) (k : Plan X) where
 
   -- the act leads to a state that the rule allows, which is the one after it
   pub acted_on : (s : Table) (r : Rule s) (id : ℕ) (v : Shown V) (act : Act) (mv : Move)
-      (seen : List Opening) (kept : List ℕ) (cs : List (ℕ × Unit {0})) → IsAt s.views id v
+      (seen : List Opening) (kept : List ℕ) (cs : List (ℕ × Option S)) → IsAt s.views id v
       → v.role ≡ Pass → Owes s r v act mv seen
       → ((room turn : ℕ) → mv.next (held r.world.state.words mv.word) ≡ Exiting room turn
       → ShowsWords M k.usage kept r.content.words)
@@ -243,6 +243,8 @@ module _ {X V : Type 0} (M : Meaning X V) (m : ℕ) (k : Plan X) where
           content = r.content;
           words = words_then s r v act mv seen o;
           sized = r.sized;
+          slots = r.slots;
+          slotted = r.slotted;
           crowd = r.crowd;
           few_callers = r.few_callers;
           few_rooms = r.few_rooms;

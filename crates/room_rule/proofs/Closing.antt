@@ -1,7 +1,9 @@
 -- The close: all passes go into one seat, which keeps their last views.
-use Rattle.std.proofs.Common.{◌≡◌, ◌≢◌, ℕ, zero, suc, ◌<◌, ⊎_elim, Bool, true, false, cond, eqb, List, [], ◌∷◌, ◌++◌, set, sym, refl, ap, ◌∙◌, subst}
-use mathlib.Core.Option.{some-injective}
+use Rattle.std.proofs.Common.{◌≡◌, ◌≢◌, ℕ, zero, suc, ◌<◌, ⊎_elim, Bool, true, false, cond, eqb, Option, List, [], ◌∷◌, ◌++◌, length, map, set, sym, refl, ap, ◌∙◌, subst, arith}
+use mathlib.Core.Option.{none, some-injective, some-ne-none}
+use lib.ListN.{get_elem?}
 use Rattle.std.proofs.lemmas.Bool.{eq-eqb, ne_eqb}
+use Rattle.std.proofs.lemmas.List.{length-map}
 use Rattle.atomic_table.specs.Table.{Enters, Joins, Final, Seen}
 use Rattle.atomic_table.proofs.Lists.{at_set, at_snoc, set_else}
 use Rattle.room_core.specs.declared.phases.Phase.TheVariants.{Out}
@@ -13,18 +15,27 @@ use Rattle.room_core.specs.Trace.{openings}
 use Rattle.room_core.specs.Gate.{Shut, gate}
 use Rattle.room_core.proofs.Facts.{all_out}
 use Rattle.room_core.proofs.Listed.{length-listed}
-use Rattle.room_rule.specs.Use.{IsAt, Meaning}
+use Rattle.room_rule.specs.Use.{IsAt, Slots, Meaning}
+use Rattle.room_rule.specs.Laws.{IsKept, Laws}
 use Rattle.room_rule.specs.View.{keeper, gone, taken_in}
 use Rattle.room_rule.specs.Rule.{Roll, IsTakenIn, Knows, Ruled}
-use Rattle.room_rule.specs.Closes.{IsIn, Ends}
+use Rattle.room_rule.specs.Closes.{AreApart, Ends}
 use Rattle.room_rule.specs.declared.rule.Plan.{Plan}
 use Rattle.room_rule.specs.declared.views.Role.{Role}
 use Rattle.room_rule.specs.declared.views.Role.TheVariants.{Maker, Pass, Note, Keeper, Gone}
 use Rattle.room_rule.specs.declared.views.Ended.{Ended}
 use Rattle.room_rule.specs.declared.views.Shown.{Shown}
-use Rattle.room_rule.proofs.Lists.{each_place, none_there}
+use Rattle.room_rule.proofs.Lists.{each_place, none_there, of_map}
+use Rattle.room_rule.proofs.Counting.{each_is_in}
+use Rattle.room_rule.proofs.Slots.{all_home}
 use Rattle.room_rule.proofs.Acts.{Table, Rule, mine, sizes_of}
 use Rattle.room_rule.proofs.Seats.{with_views, So, Kept}
+
+-- what stands there is below the end
+at_below : {A : Type 0} (l : List A) (i : ℕ) (a : A) → IsAt l i a → i < length l
+at_below [] i a e = absurd (some-ne-none a (sym e))
+at_below (x ∷ xs) zero a e = omega arith
+at_below (x ∷ xs) (suc i) a e = let q = at_below xs i a e in omega arith
 
 keeper_not : Keeper ≡ Pass → ⊥
 keeper_not e = cc
@@ -75,7 +86,7 @@ still_so world views roll who id other j was apart Keeper x h = λ i e at.
       user = q.user;
     }
 
-module _ {X V : Type 0} (M : Meaning X V) (m : ℕ) (k : Plan X) where
+module _ {X S V : Type 0} (M : Meaning X S V) (m : ℕ) (k : Plan X) where
   -- a new seat is a keeper that has taken in no pass
   pub keeper_enters : (slots word : ℕ)
       → Enters (Ruled M m k) slots word (λ n w. w ≡ keeper M.starts)
@@ -140,6 +151,8 @@ module _ {X V : Type 0} (M : Meaning X V) (m : ℕ) (k : Plan X) where
         content = r.content;
         words = r.words;
         sized = r.sized;
+        slots = r.slots;
+        slotted = r.slotted;
         crowd = r.crowd;
         few_callers = r.few_callers;
         few_rooms = r.few_rooms;
@@ -164,26 +177,60 @@ module _ {X V : Type 0} (M : Meaning X V) (m : ℕ) (k : Plan X) where
         waits = r.waits;
       }
 
+  -- no slot is out where the gate is shut
+  none_out : Laws M → (s : Table M m k) (r : Rule M m k s) (turn : ℕ)
+      → M.lawful k.usage r.content (Shut turn) → (j : ℕ) → IsAt r.content.slots j none → ⊥
+  none_out laws s r turn lawful j out =
+      let below : j < length r.content.slots = at_below r.content.slots j none out in
+      let long : length r.content.slots ≡ M.slots k.usage = r.slotted in
+      let kept : IsKept M r.content.views j =
+      (laws.slots.out k.usage r.content (Shut turn) j lawful (omega arith)).0 out in
+      (laws.slots.insiders k.usage r.content (Shut turn) kept.0 kept.1 j lawful kept.2 kept.3).0
+
+  -- where the keeper has taken in as many passes as there are callers, no two of one, all are out
+  all_are_out : (s : Table M m k) (r : Rule M m k s) (id : ℕ) (ended : List (Ended V))
+      → ((i : ℕ) (e : Ended V) → IsAt ended i e
+      → IsTakenIn r.world r.content.views r.roll id e)
+      → length ended ≡ k.callers → AreApart ended → (c : ℕ) → c < k.callers
+      → phase_of r.world.state c ≡ Out
+  all_are_out s r id ended mine_ long apart c under =
+      let who : Ended V → ℕ = λ e. e.who in let few = r.few_made in
+      let found = each_is_in (map who ended) k.callers (length-map ended who ∙ long)
+      (λ i a at. let o = of_map who ended i a at in let low = (mine_ i o.0 o.1).made in
+      let same = o.2 in omega arith)
+      (λ i j a at there. let o = of_map who ended i a at in
+      let p = of_map who ended j a there in apart i j o.0 p.0 o.1 p.1 (o.2 ∙ sym p.2))
+      c under in
+      let its = of_map who ended found.0 c found.1 in
+      ap (phase_of r.world.state) (sym its.2) ∙ (mine_ found.0 its.0 its.1).out
+
   -- the table at the end, where the keeper has each pass
-  pub ends_with : (id : ℕ) (v : Shown V) (ws : List ℕ) (xs : List (Unit {0})) → v.role ≡ Keeper
-      → ((c : ℕ) → c < k.callers → IsIn v.ended c) → Final (Seen (Ruled M m k) id v) ws xs
-      → Ends M m k v.ended ws
-  ends_with id v ws xs is all f =
+  pub ends_with : Laws M → (id : ℕ) (v : Shown V) (ws : List ℕ) (xs : List (Option S))
+      → v.role ≡ Keeper → length v.ended ≡ k.callers → AreApart v.ended
+      → Final (Seen (Ruled M m k) id v) ws xs → Ends M m k v.ended ws xs
+  ends_with laws id v ws xs is many apart f =
       let s = f.0 in let r = f.1.0 in
       let mine_ = subst (λ (z : Role). Knows r.world r.content.views r.roll id z v) is
       (r.each id v f.1.1) in
       let shut : gate (trace r.world.history) ≡ Shut (openings (trace r.world.history)) =
       all_out m k.callers r.few_rooms r.few_callers r.world r.reached
-      (λ c under. let a = all c under in
-      ap (phase_of r.world.state) (sym a.1.2) ∙ (mine_ a.0 a.1.0 a.1.1).out) in
+      (all_are_out s r id v.ended mine_ many apart) in
+      let lawful : M.lawful k.usage r.content (Shut (openings (trace r.world.history))) =
+      subst (M.lawful k.usage r.content) shut r.lawful in
+      let same : length s.homes ≡ length r.content.slots = ap length r.slots in
+      let long : length s.homes ≡ length xs = f.3 in
       record {
         rooms = listed r.world.state.words;
         content = r.content;
         words = sym f.2 ∙ r.words;
         long = length-listed m r.world.state.words (sizes_of M m k s r);
         sized = r.sized;
+        at_home = all_home r.content.slots xs (sym same ∙ long)
+            (none_out laws s r (openings (trace r.world.history)) lawful)
+            (λ j y at. f.4 j y (ap (λ (l : Slots S). get_elem? l j) r.slots ∙ at));
+        slotted = sym long ∙ same ∙ r.slotted;
         crowd = r.crowd;
         each = λ i e at. (mine_ i e at).user;
         turn = openings (trace r.world.history);
-        lawful = subst (M.lawful k.usage r.content) shut r.lawful;
+        lawful = lawful;
       }

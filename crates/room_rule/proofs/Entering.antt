@@ -1,5 +1,5 @@
 -- The steps by which a caller enters: a draw, the try of a poll, and the opening of a room.
-use Rattle.std.proofs.Common.{◌≡◌, ℕ, zero, suc, ◌+◌, ◌%◌, ◌^◌, ◌<◌, ◌≤◌, Bool, true, false, cond, eqb, leb, Option, List, [], ◌∷◌, length, get_or, set, sym, refl, ap, ◌∙◌, subst, arith, append-nil}
+use Rattle.std.proofs.Common.{◌≡◌, ℕ, zero, suc, ◌+◌, ◌%◌, ◌^◌, ◌<◌, ◌≤◌, Bool, true, false, cond, eqb, leb, Option, Some, None, List, [], ◌∷◌, length, get_or, set, sym, refl, ap, ◌∙◌, subst, arith, append-nil}
 use prog.Atomic.{either}
 use Rattle.std.proofs.lemmas.Bool.{cond-true, eq-eqb, lt-ltb}
 use Rattle.std.proofs.lemmas.List.{get_or-set_same}
@@ -8,16 +8,18 @@ use Rattle.room_core.specs.declared.acts.Act.TheVariants.{Draw, Step}
 use Rattle.room_core.specs.declared.items.Item.{Item}
 use Rattle.room_core.specs.declared.items.Item.TheVariants.{Opened, Entered}
 use Rattle.room_core.specs.declared.items.Opening.{Opening}
+use Rattle.room_core.specs.declared.phases.Phase.{Phase}
 use Rattle.room_core.specs.declared.phases.Phase.TheVariants.{Out, Looking, Glancing, Seizing, Counting, Admitting, Turning, Inside}
 use Rattle.room_core.specs.Words.{held}
 use Rattle.room_core.specs.Moves.{Move, drawing_move, looking_move, glancing_move, seizing_move, counting_move, admitting_move, turning_move}
 use Rattle.room_core.specs.Machine.{made, phase_of}
 use Rattle.room_core.specs.Active.{pack, turn_of, seen}
-use Rattle.room_core.specs.Trace.{trace}
-use Rattle.room_core.specs.Trace.{all_opened, openings, since}
-use Rattle.room_core.specs.Gate.{Shut, Held, gate, nobody, inside}
-use Rattle.room_core.proofs.Facts.{IsHeld, count, active_low, wait_low, draw_row, step_row, one_more, granted_to, turner, opener, bypass, gate_held, gate_entered, gate_opened_in}
-use Rattle.room_rule.specs.Use.{IsAt, Meaning}
+use Rattle.room_core.specs.Trace.{trace, is_closing, is_exiting}
+use Rattle.room_core.specs.Trace.{all_opened, openings, since, last_opening}
+use Rattle.room_core.specs.Gate.{Shut, Held, gate, gate_by, nobody, inside, is_there, leaver}
+use Rattle.room_core.proofs.Invariant.{room_inside}
+use Rattle.room_core.proofs.Facts.{IsHeld, sound, count, active_low, wait_low, draw_row, step_row, one_more, granted_to, turner, opener, bypass, gate_held, gate_entered, gate_opened_in}
+use Rattle.room_rule.specs.Use.{IsAt, Meaning, IsInsider}
 use Rattle.room_rule.specs.Laws.{Laws}
 use Rattle.room_rule.specs.Openings.{openings_of, IsAmong, IsCovered}
 use Rattle.room_rule.specs.View.{moved}
@@ -27,14 +29,25 @@ use Rattle.room_rule.specs.declared.rule.Plan.{Plan}
 use Rattle.room_rule.specs.declared.views.Role.TheVariants.{Pass}
 use Rattle.room_rule.specs.declared.views.Shown.{Shown}
 use Rattle.room_rule.proofs.Lists.{starts_trans}
+use Rattle.room_rule.proofs.Slots.{keeps_none}
 use Rattle.room_rule.proofs.Opened.{comes_in}
 use Rattle.room_rule.proofs.Acts.{then_is, Table, Rule, Mine, is_one, sizes_of}
 use Rattle.room_rule.proofs.Events.{no_key, neither_key, event, quiet_owes, tell, arrives_else}
 
-module _ {X V : Type 0} (M : Meaning X V) (m : ℕ) (k : Plan X) where
+not_both : true ≡ false → ⊥
+not_both e = cc
+
+not_in : (o : Option Opening) (closing exiting : Bool) (ins : ℕ → Bool) (who c : ℕ)
+    → ins c ≡ false → IsInsider (gate_by o closing exiting ins who) c → ⊥
+not_in None closing exiting ins who c out is = is
+not_in (Some o) false exiting ins who c out is = not_both (sym is ∙ out)
+not_in (Some o) true true ins who c out is = is
+not_in (Some o) true false ins who c out is = is
+
+module _ {X S V : Type 0} (M : Meaning X S V) (m : ℕ) (k : Plan X) where
   -- a draw
-  pub draws : (slots id : ℕ) (me : Seated V) (room : ℕ) (change : ℕ → ℕ)
-      (then : ℕ → Seated V → Type 0)
+  pub draws : (slots id : ℕ) (me : Seated S V) (room : ℕ) (change : ℕ → ℕ)
+      (then : ℕ → Seated S V → Type 0)
       → me.0.role ≡ Pass → room < m → me.0.phase ≡ Out → me.0.draws < 2 ^ 48
       → M.may_enter k.usage me.0.user
       → ((n : ℕ) → n + 1 < 2 ^ 64 → change n ≡ n + 1)
@@ -92,7 +105,7 @@ module _ {X V : Type 0} (M : Meaning X V) (m : ℕ) (k : Plan X) where
       omega arith
 
   -- a load of the grant
-  pub looks : (slots id : ℕ) (me : Seated V) (room ticket : ℕ) (first : Option ℕ)
+  pub looks : (slots id : ℕ) (me : Seated S V) (room ticket : ℕ) (first : Option ℕ)
       → me.0.role ≡ Pass → room < m → me.0.phase ≡ Looking room ticket first
       → IsEvent M m k slots id me (1 + m + room) (λ n. n) (λ n me'. stepped_by M m me n me') Step
   looks slots id me room ticket first is below at =
@@ -114,7 +127,7 @@ module _ {X V : Type 0} (M : Meaning X V) (m : ℕ) (k : Plan X) where
       })
 
   -- a load of the active word, by one that was not let in
-  pub glances : (slots id : ℕ) (me : Seated V) (room ticket : ℕ) (first : Option ℕ)
+  pub glances : (slots id : ℕ) (me : Seated S V) (room ticket : ℕ) (first : Option ℕ)
       → me.0.role ≡ Pass → me.0.phase ≡ Glancing room ticket first
       → IsEvent M m k slots id me 0 (λ n. n) (λ n me'. stepped_by M m me n me') Step
   glances slots id me room ticket first is at =
@@ -138,7 +151,7 @@ module _ {X V : Type 0} (M : Meaning X V) (m : ℕ) (k : Plan X) where
   either_cond false x y = refl
 
   -- the exchange of the idle word
-  pub seizes : (slots id : ℕ) (me : Seated V) (room ticket idle new : ℕ) (first : Option ℕ)
+  pub seizes : (slots id : ℕ) (me : Seated S V) (room ticket idle new : ℕ) (first : Option ℕ)
       → me.0.role ≡ Pass → me.0.phase ≡ Seizing room ticket first idle
       → new ≡ pack (turn_of idle + 1) (room + 1)
       → IsEvent M m k slots id me 0 (λ n. either (eqb n idle) new n)
@@ -161,7 +174,7 @@ module _ {X V : Type 0} (M : Meaning X V) (m : ℕ) (k : Plan X) where
       })
 
   -- a load of the wait
-  pub counts : (slots id : ℕ) (me : Seated V) (room ticket turn : ℕ) (first : Option ℕ)
+  pub counts : (slots id : ℕ) (me : Seated S V) (room ticket turn : ℕ) (first : Option ℕ)
       → me.0.role ≡ Pass → room < m → me.0.phase ≡ Counting room ticket first turn
       → IsEvent M m k slots id me (1 + room) (λ n. n) (λ n me'. stepped_by M m me n me') Step
   counts slots id me room ticket turn first is below at =
@@ -200,8 +213,18 @@ module _ {X V : Type 0} (M : Meaning X V) (m : ℕ) (k : Plan X) where
       (laws.enters k.usage r.content room turn (inside t) who u
       (subst L (gate_held t room turn to now) r.lawful) at may low)
 
+  -- who is in another phase is no insider
+  not_inside : (s : Table M m k) (r : Rule M m k s) (who : ℕ) (p : Phase)
+      → phase_of r.world.state who ≡ p → is_there (room_inside p) ≡ false
+      → IsInsider (gate (trace r.world.history)) who → ⊥
+  not_inside s r who p at out =
+      let t = trace r.world.history in
+      let a = sound m k.callers r.few_rooms r.few_callers r.world r.reached in
+      not_in (last_opening t) (is_closing t) (is_exiting t) (inside t) (leaver t) who
+      (ap is_there (a.good.inv.occupied who ∙ ap room_inside at) ∙ out)
+
   -- the load of the turn, by one that was let in
-  pub turns : Laws M → (slots id : ℕ) (me : Seated V) (room ticket to : ℕ) (first : Option ℕ)
+  pub turns : Laws M → (slots id : ℕ) (me : Seated S V) (room ticket to : ℕ) (first : Option ℕ)
       → me.0.role ≡ Pass → me.0.phase ≡ Turning room ticket first to
       → IsEvent M m k slots id me 0 (λ n. n) (λ n me'. stepped_by M m me n me') Step
   turns laws slots id me room ticket to first is at =
@@ -244,6 +267,8 @@ module _ {X V : Type 0} (M : Meaning X V) (m : ℕ) (k : Plan X) where
               ad.now.is_last ad.now.room_is ad.now.turn_is ad.now.to_is ad.low ad.high q.0 q.1
               h.seen),
           low,
+          keeps_none M laws.slots k.usage r.content (gate t) r.lawful who me.0.user h.user
+              (not_inside s r who p here refl),
         );
       })
 
@@ -264,7 +289,7 @@ module _ {X V : Type 0} (M : Meaning X V) (m : ℕ) (k : Plan X) where
 
   -- the store of the grant, by one that enters with it
   pub admits : Laws M
-      → (slots id : ℕ) (me : Seated V) (room ticket turn to n : ℕ) (first : Option ℕ)
+      → (slots id : ℕ) (me : Seated S V) (room ticket turn to n : ℕ) (first : Option ℕ)
       → me.0.role ≡ Pass → room < m → 0 < ticket
       → me.0.phase ≡ Admitting room ticket first turn to
       → IsEvent M m k slots id me (1 + m + room) (λ _. to) (λ _ me'. stepped_by M m me n me') Step
@@ -314,5 +339,7 @@ module _ {X V : Type 0} (M : Meaning X V) (m : ℕ) (k : Plan X) where
               refl refl refl refl (o.low more) o.high q.0 q.1
               (starts_trans (all_opened t') (all_opened t) me.0.seen (opening ∷ [], refl) h.seen)),
           low,
+          keeps_none M laws.slots k.usage r.content (gate t) r.lawful who me.0.user h.user
+              (not_inside s r who p here refl),
         );
       })

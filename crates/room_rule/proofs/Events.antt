@@ -43,10 +43,10 @@ pub neither_key : (b : Bool) (p q : Phase) → is_key p ≡ false → is_key q �
 neither_key true p q x y = x
 neither_key false p q x y = y
 
-module _ {X V : Type 0} (M : Meaning X V) (m : ℕ) (k : Plan X) where
+module _ {X S V : Type 0} (M : Meaning X S V) (m : ℕ) (k : Plan X) where
   -- what a step owes to be the act
-  pub record Deal (s : Table M m k) (r : Rule M m k s) (me : Seated V) (act : Act) (mv : Move)
-      (change : ℕ → ℕ) (then : ℕ → Seated V → Type 0) : Type 0 where
+  pub record Deal (s : Table M m k) (r : Rule M m k s) (me : Seated S V) (act : Act) (mv : Move)
+      (change : ℕ → ℕ) (then : ℕ → Seated S V → Type 0) : Type 0 where
     pub seen : List Opening
     pub owes : Owes M m k s r me.0 act mv seen
     pub same : change (held r.world.state.words mv.word) ≡ value_of mv.kind
@@ -57,8 +57,8 @@ module _ {X V : Type 0} (M : Meaning X V) (m : ℕ) (k : Plan X) where
     pub tells : then (held r.world.state.words mv.word)
         (record (moved me.0 act mv (held r.world.state.words mv.word) seen) { kept = kept }, me.1)
 
-  pub event_at : (slots id : ℕ) (me : Seated V) (act : Act) (mv : Move) (change : ℕ → ℕ)
-      (then : ℕ → Seated V → Type 0) → me.0.role ≡ Pass
+  pub event_at : (slots id : ℕ) (me : Seated S V) (act : Act) (mv : Move) (change : ℕ → ℕ)
+      (then : ℕ → Seated S V → Type 0) → me.0.role ≡ Pass
       → ((s : Table M m k) (r : Rule M m k s) → IsAt s.views id me.0 → Mine M m k s r id me.0
       → Deal s r me act mv change then)
       → IsEvent M m k slots id me (place m mv.word) change then act
@@ -75,8 +75,8 @@ module _ {X V : Type 0} (M : Meaning X V) (m : ℕ) (k : Plan X) where
         subst (λ (z : ℕ). then z (now, me.1)) (sym e) d.tells,
       )
 
-  pub event : (slots id : ℕ) (me : Seated V) (act : Act) (mv : Move) (change : ℕ → ℕ)
-      (then : ℕ → Seated V → Type 0) → me.0.role ≡ Pass
+  pub event : (slots id : ℕ) (me : Seated S V) (act : Act) (mv : Move) (change : ℕ → ℕ)
+      (then : ℕ → Seated S V → Type 0) → me.0.role ≡ Pass
       → ((s : Table M m k) (r : Rule M m k s) → Mine M m k s r id me.0
       → Deal s r me act mv change then)
       → IsEvent M m k slots id me (place m mv.word) change then act
@@ -84,21 +84,22 @@ module _ {X V : Type 0} (M : Meaning X V) (m : ℕ) (k : Plan X) where
       event_at slots id me act mv change then is (λ s r _ h. deal s r h)
 
   -- the table allows an event at a place, and a step that is none
-  pub allows_event : (slots id : ℕ) (me : Seated V) (at place : ℕ) → at ≡ place
-      → (change : ℕ → ℕ) (then : ℕ → Seated V → Type 0) (act : Act)
+  pub allows_event : (slots id : ℕ) (me : Seated S V) (at place : ℕ) → at ≡ place
+      → (change : ℕ → ℕ) (then : ℕ → Seated S V → Type 0) (act : Act)
       → IsEvent M m k slots id me place change then act
       → Allows (Ruled M m k) slots id me at change then
   allows_event slots id me at place is change then act event =
       subst (λ (z : ℕ). Allows (Ruled M m k) slots id me z change then) (sym is)
       (λ s r long there small. let x = event s r long there small in (x.0, keeps, tt, x.1.0, x.2))
 
-  pub allows_no_event : (slots id : ℕ) (me : Seated V) (at place : ℕ) → at ≡ place
-      → (change : ℕ → ℕ) (then : ℕ → Seated V → Type 0)
+  pub allows_no_event : (slots id : ℕ) (me : Seated S V) (at place : ℕ) → at ≡ place
+      → (change : ℕ → ℕ) (then : ℕ → Seated S V → Type 0)
       → IsNoEvent M m k slots id me place change then
       → Allows (Ruled M m k) slots id me at change then
   allows_no_event slots id me at place is change then event =
       subst (λ (z : ℕ). Allows (Ruled M m k) slots id me z change then) (sym is)
-      (λ s r long there small. let x = event s r long there small in (x.0, keeps, tt, x.1.0, x.2))
+      (λ s r long there small. let x = event s r long there small in
+      (x.0, x.1, x.2, x.3.0, x.4))
 
   -- what a step that adds nothing to the trace owes
   pub quiet_owes : (s : Table M m k) (r : Rule M m k s) (id : ℕ) (v : Shown V) (p : Phase)
@@ -126,13 +127,13 @@ module _ {X V : Type 0} (M : Meaning X V) (m : ℕ) (k : Plan X) where
   same_move a b e = cc
 
   -- what a step tells
-  pub tell : (me : Seated V) (p : Phase) (n : ℕ) (mv : Move) (seen : List Opening) → me.0.phase ≡ p
+  pub tell : (me : Seated S V) (p : Phase) (n : ℕ) (mv : Move) (seen : List Opening) → me.0.phase ≡ p
       → move m me.0.who p ≡ Some mv
       → Looks p me.0.known n → Arrives M m (mv.next n) me.0.user me.0.seen seen
       → stepped_by M m me n (moved me.0 Step mv n seen, me.1)
   tell me p n mv seen at by looks arrives = λ mv' by'. subst
       (λ (q : Move). (all : List Opening)
-      × ◌≡◌ {A = Seated V} (moved me.0 Step mv n seen, me.1) (moved me.0 Step q n all, me.1)
+      × ◌≡◌ {A = Seated S V} (moved me.0 Step mv n seen, me.1) (moved me.0 Step q n all, me.1)
       × Looks me.0.phase me.0.known n × Arrives M m (q.next n) me.0.user me.0.seen all)
       (same_move mv mv' (sym (ap (λ (z : Phase). move m me.0.who z) at ∙ by) ∙ by'))
       (seen, refl, subst (λ (z : Phase). Looks z me.0.known n) (sym at) looks, arrives)

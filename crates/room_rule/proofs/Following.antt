@@ -1,5 +1,5 @@
 -- The table follows the protocol: by the rows of the phases.
-use Rattle.std.proofs.Common.{◌≡◌, ℕ, zero, suc, ◌+◌, ◌%◌, Bool, true, false, cond, eqb, Some, None, refl, subst, arith, mod-eq_of_lt}
+use Rattle.std.proofs.Common.{◌≡◌, ℕ, zero, suc, ◌+◌, ◌%◌, Bool, true, false, cond, eqb, get_or, set, Some, None, refl, subst, arith, mod-eq_of_lt}
 use prog.Atomic.{either}
 use Rattle.room_core.specs.declared.acts.Act.TheVariants.{Draw, Step}
 use Rattle.room_core.specs.declared.phases.Phase.{Phase}
@@ -12,10 +12,12 @@ use Rattle.room_rule.specs.Laws.{Laws}
 use Rattle.room_rule.specs.View.{moved}
 use Rattle.room_rule.specs.Told.{Seated, stepped_by, IsEvent}
 use Rattle.room_rule.specs.Following.{told, MayGo, StepsAreActs, DrawsAreActs, LeavesAreActs}
+use Rattle.room_rule.specs.Following.{anything, InsidersKeepIt, HoldersKeepIt, TouchesKeepIt}
 use Rattle.room_rule.specs.declared.rule.Plan.{Plan}
 use Rattle.room_rule.specs.declared.views.Role.TheVariants.{Pass}
 use Rattle.room_rule.proofs.Entering.{draws, looks, glances, seizes, counts, turns, admits}
 use Rattle.room_rule.proofs.Leaving.{leaves, ends, peers, scans, passes_on, passes_idle, opens_out}
+use Rattle.room_rule.proofs.UserSteps.{shows_set, steps, exits, touches}
 
 no_move : (mv : Move) → None ≡ Some mv → ⊥
 no_move mv e = cc
@@ -27,14 +29,14 @@ either_cond : (b : Bool) (x y : ℕ) → either b x y ≡ cond b x y
 either_cond true x y = refl
 either_cond false x y = refl
 
-module _ {X V : Type 0} (M : Meaning X V) (m : ℕ) (laws : Laws M) where
-  abbrev IsAct : Plan X → ℕ → ℕ → Seated V → Move → Type 0
+module _ {X S V : Type 0} (M : Meaning X S V) (m : ℕ) (laws : Laws M) where
+  abbrev IsAct : Plan X → ℕ → ℕ → Seated S V → Move → Type 0
   IsAct k slots id me mv =
       IsEvent M m k slots id me (place m mv.word) (value_of mv.kind)
       (λ n me'. stepped_by M m me (told mv.kind n) me') Step
 
   -- the step of the row of a phase
-  row : (k : Plan X) (slots id : ℕ) (me : Seated V) (p : Phase) (mv : Move) → me.0.role ≡ Pass
+  row : (k : Plan X) (slots id : ℕ) (me : Seated S V) (p : Phase) (mv : Move) → me.0.role ≡ Pass
       → me.0.phase ≡ p → move m me.0.who p ≡ Some mv → MayGo M m k.usage me.0 p
       → IsAct k slots id me mv
   row k slots id me Out mv is at by may = absurd (no_move mv by)
@@ -84,7 +86,7 @@ module _ {X V : Type 0} (M : Meaning X V) (m : ℕ) (laws : Laws M) where
 
   pub draws_are_acts : DrawsAreActs M m
   draws_are_acts k slots id me room is out below more may =
-      let tells : ℕ → Seated V
+      let tells : ℕ → Seated S V
       → Type 0 = λ n me'.
       me' ≡ (moved me.0 (Draw room) (drawing_move room) n me.0.seen, me.1) in
       draws M m k slots id me room
@@ -95,3 +97,22 @@ module _ {X V : Type 0} (M : Meaning X V) (m : ℕ) (laws : Laws M) where
   leaves_are_acts k slots id me room ticket turn to first is at may =
       leaves M m k laws slots id me room ticket turn to first
       (λ n. (n + 1) % 18446744073709551616) is at may (λ n h. mod-eq_of_lt h)
+
+  pub insiders_keep_it : InsidersKeepIt M m
+  insiders_keep_it k slots id me room ticket turn to word first change is at there has can =
+      steps M m k laws slots id me room ticket turn to word first change change (λ n. Unit {0})
+      (anything M m) (λ n me'. Unit {0}) is at there has can (λ n small f. refl)
+      (λ n u carried c t. tt)
+
+  pub holders_keep_it : HoldersKeepIt M m
+  holders_keep_it k slots id me room turn word change is at there can =
+      exits M m k laws slots id me room turn word change change (λ n. set me.0.kept word (change n))
+      (anything M m) (λ n me'. Unit {0}) is at there can (λ n small. refl)
+      (λ words size shows.
+      shows_set M k.usage words me.0.kept word (change (get_or words word 0)) size shows)
+      (λ n u shown size t. tt)
+
+  pub touches_keep_it : TouchesKeepIt M m
+  touches_keep_it k slots id me word change is at there can =
+      touches M m k laws slots id me word change change (λ n. Unit {0}) (anything M m)
+      (λ n me'. Unit {0}) is at there can (λ n small f. refl) (λ n u t. tt)

@@ -45,14 +45,14 @@ neither_waits : (b : Bool) (p q : Phase) → (is_waiting p ≡ true → ⊥) →
 neither_waits true p q x y = x
 neither_waits false p q x y = y
 
-module _ {X V : Type 0} (M : Meaning X V) (m : ℕ) (k : Plan X) where
+module _ {X S V : Type 0} (M : Meaning X S V) (m : ℕ) (k : Plan X) where
   -- the trace after a departure: the exit code begins where it is the last
   abbrev left_then : ℕ → ℕ → Bool → List Item → List Item
   left_then who room last t = onto (cond last (Some (ExitBegun room)) None) (Left who ∷ t)
 
   -- a departure
   pub leaves : Laws M
-      → (slots id : ℕ) (me : Seated V) (room ticket turn to : ℕ) (first : Option ℕ)
+      → (slots id : ℕ) (me : Seated S V) (room ticket turn to : ℕ) (first : Option ℕ)
       (change : ℕ → ℕ) → me.0.role ≡ Pass → me.0.phase ≡ Inside room ticket first turn to
       → M.may_leave k.usage me.0.user
       → ((n : ℕ) → n + 1 < 2 ^ 64 → change n ≡ n + 1)
@@ -78,6 +78,7 @@ module _ {X V : Type 0} (M : Meaning X V) (m : ℕ) (k : Plan X) where
       record {
         lawful = subst L (gate_held t room turn to now) r.lawful;
         sized = r.sized;
+        slotted = r.slotted;
         view =
             h.user;
         inside = u.1;
@@ -127,7 +128,7 @@ module _ {X V : Type 0} (M : Meaning X V) (m : ℕ) (k : Plan X) where
       })
 
   -- the end of the exit code, where the words rest
-  pub ends : Laws M → (slots id : ℕ) (me : Seated V) (room turn next : ℕ) → me.0.role ≡ Pass
+  pub ends : Laws M → (slots id : ℕ) (me : Seated S V) (room turn next : ℕ) → me.0.role ≡ Pass
       → 0 < m → me.0.phase ≡ Exiting room turn → next ≡ (room + 1) % m
       → RestsOn M k.usage me.0.kept me.0.user
       → IsEvent M m k slots id me (1 + next) (λ n. n) (λ n me'. stepped_by M m me n me') Step
@@ -151,7 +152,12 @@ module _ {X V : Type 0} (M : Meaning X V) (m : ℕ) (k : Plan X) where
           apt = tt;
           starts = h.seen;
           lawful = subst L (sym x.1) (laws.passes k.usage r.content room turn who me.0.user
-              (record { lawful = subst L x.0 r.lawful; sized = r.sized; view = h.user })
+              (record {
+                lawful = subst L x.0 r.lawful;
+                sized = r.sized;
+                slotted = r.slotted;
+                view = h.user;
+              })
               (rests r.content.words (r.kept id me.0 there is room turn at)));
           waits = λ f. absurd (not_waiting f);
         };
@@ -172,7 +178,7 @@ module _ {X V : Type 0} (M : Meaning X V) (m : ℕ) (k : Plan X) where
       quiet_owes M m k s r id v p mv h at by still has apt (λ f. absurd (waits f))
 
   -- the load of the grant of a room that is scanned
-  pub peers : (slots id : ℕ) (me : Seated V) (room turn j w' : ℕ) → me.0.role ≡ Pass
+  pub peers : (slots id : ℕ) (me : Seated S V) (room turn j w' : ℕ) → me.0.role ≡ Pass
       → me.0.phase ≡ Peering room turn j w'
       → IsEvent M m k slots id me (1 + m + j) (λ n. n) (λ n me'. stepped_by M m me n me') Step
   peers slots id me room turn j w' is at =
@@ -200,7 +206,7 @@ module _ {X V : Type 0} (M : Meaning X V) (m : ℕ) (k : Plan X) where
       })
 
   -- the load of the wait of the next room
-  pub scans : (slots id : ℕ) (me : Seated V) (room turn j : ℕ) → me.0.role ≡ Pass
+  pub scans : (slots id : ℕ) (me : Seated S V) (room turn j : ℕ) → me.0.role ≡ Pass
       → me.0.phase ≡ Scanning room turn j
       → IsEvent M m k slots id me (1 + j) (λ n. n) (λ n me'. stepped_by M m me n me') Step
   scans slots id me room turn j is at =
@@ -220,7 +226,7 @@ module _ {X V : Type 0} (M : Meaning X V) (m : ℕ) (k : Plan X) where
       })
 
   -- the store of the active word for the room that was chosen
-  pub passes_on : (slots id : ℕ) (me : Seated V) (turn j new n : ℕ) → me.0.role ≡ Pass
+  pub passes_on : (slots id : ℕ) (me : Seated S V) (turn j new n : ℕ) → me.0.role ≡ Pass
       → me.0.phase ≡ Passing turn (Some j) → new ≡ pack (turn + 1) (j + 1)
       → IsEvent M m k slots id me 0 (λ _. new) (λ _ me'. stepped_by M m me n me') Step
   passes_on slots id me turn j new n is at new_is =
@@ -236,7 +242,7 @@ module _ {X V : Type 0} (M : Meaning X V) (m : ℕ) (k : Plan X) where
       })
 
   -- the store of the idle word
-  pub passes_idle : (slots id : ℕ) (me : Seated V) (turn new n : ℕ) → me.0.role ≡ Pass
+  pub passes_idle : (slots id : ℕ) (me : Seated S V) (turn new n : ℕ) → me.0.role ≡ Pass
       → me.0.phase ≡ Passing turn None → new ≡ pack turn 0
       → IsEvent M m k slots id me 0 (λ _. new) (λ _ me'. stepped_by M m me n me') Step
   passes_idle slots id me turn new n is at new_is =
@@ -252,7 +258,7 @@ module _ {X V : Type 0} (M : Meaning X V) (m : ℕ) (k : Plan X) where
       })
 
   -- the store of the grant by one that leaves, and is out then
-  pub opens_out : Laws M → (slots id : ℕ) (me : Seated V) (room turn to n : ℕ) (first : Option ℕ)
+  pub opens_out : Laws M → (slots id : ℕ) (me : Seated S V) (room turn to n : ℕ) (first : Option ℕ)
       → me.0.role ≡ Pass → room < m → me.0.phase ≡ Admitting room 0 first turn to
       → IsEvent M m k slots id me (1 + m + room) (λ _. to) (λ _ me'. stepped_by M m me n me') Step
   opens_out laws slots id me room turn to n first is below at =

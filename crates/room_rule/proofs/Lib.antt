@@ -1,4 +1,6 @@
 pub mod Lists
+pub mod Counting
+pub mod Slots
 pub mod Opened
 pub mod Acts
 pub mod Events
@@ -7,5 +9,6 @@ pub mod Leaving
 pub mod Seats
 pub mod Making
 pub mod UserSteps
+pub mod Looking
 pub mod Closing
 pub mod Following

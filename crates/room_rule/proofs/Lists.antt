@@ -1,5 +1,5 @@
 -- Lists by their places, and their beginnings.
-use Rattle.std.proofs.Common.{◌≡◌, ◌≢◌, ℕ, zero, suc, ◌⊎◌, ⊎_elim, inl, inr, Bool, true, false, cond, List, [], ◌∷◌, ◌++◌, length, set, sym, refl, ap, ◌∙◌, subst, append_assoc}
+use Rattle.std.proofs.Common.{◌≡◌, ◌≢◌, ℕ, zero, suc, ◌⊎◌, ⊎_elim, inl, inr, Bool, true, false, cond, List, [], ◌∷◌, ◌++◌, length, map, set, sym, refl, ap, ◌∙◌, subst, append_assoc}
 use mathlib.Core.Option.{some-injective, some-ne-none}
 use lib.ListN.{get_elem?}
 use Rattle.atomic_table.proofs.Lists.{at_set, at_longer}
@@ -68,3 +68,10 @@ pub among_both : {A : Type 0} (whole l n : List A) → IsAmong whole l → IsAmo
     → IsAmong whole (l ++ n)
 among_both whole l n x y i a e =
     ⊎_elim (λ f. x i a f) (λ (t : (j : ℕ) × IsAt n j a). y t.0 a t.1) (in_either l n i a e)
+
+-- what stands in a list of results is the result of what stands there
+pub of_map : {A B : Type 0} (f : A → B) (l : List A) (i : ℕ) (b : B) → IsAt (map f l) i b
+    → (a : A) × IsAt l i a × (f a ≡ b)
+of_map f [] i b e = absurd (some-ne-none b (sym e))
+of_map f (x ∷ xs) zero b e = (x, refl, some-injective (f x) b e)
+of_map f (x ∷ xs) (suc i) b e = of_map f xs i b e

@@ -1,13 +1,14 @@
 -- A new table meets the rule, and the maker may make each pass.
-use Rattle.std.proofs.Common.{◌≡◌, ◌≢◌, ℕ, zero, suc, ◌+◌, ◌*◌, ◌<◌, ◌≤◌, ⊎_elim, Bool, true, false, cond, eqb, List, [], ◌∷◌, ◌++◌, length, get_or, set, replicate, sym, refl, ap, ◌∙◌, subst, arith, eq-eqb, ne_eqb, length-set, le_refl}
+use Rattle.std.proofs.Common.{◌≡◌, ◌≢◌, ℕ, zero, suc, ◌+◌, ◌*◌, ◌<◌, ◌≤◌, ⊎_elim, Bool, true, false, cond, eqb, None, List, [], ◌∷◌, ◌++◌, length, get_or, map, set, replicate, sym, refl, ap, ◌∙◌, subst, arith, eq-eqb, ne_eqb, length-set, le_refl}
 use mathlib.Core.Option.{some, some-injective, some-ne-none}
 use lib.ListN.{get_elem?}
+use Rattle.std.proofs.lemmas.List.{length-map, length-replicate}
 use Rattle.atomic_table.specs.Table.{Splits, opening}
 use Rattle.room_core.specs.declared.phases.Phase.TheVariants.{Out, Exiting}
 use Rattle.room_core.specs.Words.{listed}
 use Rattle.room_core.specs.Runs.{World, start}
 use Rattle.room_core.proofs.Apart.{outs, zeros}
-use Rattle.room_rule.specs.Use.{IsAt, Meaning}
+use Rattle.room_rule.specs.Use.{IsAt, Slots, Meaning}
 use Rattle.room_rule.specs.Laws.{Laws}
 use Rattle.room_rule.specs.View.{maker, hired, after_hire}
 use Rattle.room_rule.specs.Openings.{openings_of}
@@ -17,6 +18,7 @@ use Rattle.room_rule.specs.declared.views.Role.{Role}
 use Rattle.room_rule.specs.declared.views.Role.TheVariants.{Maker, Pass, Note, Keeper, Gone}
 use Rattle.room_rule.specs.declared.views.Shown.{Shown}
 use Rattle.room_rule.proofs.Lists.{each_place, at_end, only_one, none_there}
+use Rattle.room_rule.proofs.Slots.{all_none}
 
 -- the starting views of so many callers, from the number c on
 starting : {V : Type 0} → (ℕ → V) → ℕ → ℕ → List V
@@ -109,22 +111,30 @@ still_so world views roll next j id own apart Pass x h =
       known = h.known;
     }
 
-module _ {X V : Type 0} (M : Meaning X V) (m : ℕ) (k : Plan X) where
+module _ {X S V : Type 0} (M : Meaning X S V) (m : ℕ) (k : Plan X) where
   -- a new table
   pub opens : Laws M → m ≤ 7 → (user : List ℕ) → k.callers ≤ 64 → length user ≡ M.words k.usage
       → ((i : ℕ) → i < M.words k.usage → get_or user i 0 ≡ M.start k.usage k.callers i)
-      → Ruled M m k (opening (replicate (1 + 3 * m) 0 ++ user) [] (maker M.starts))
+      → Ruled M m k
+      (opening (replicate (1 + 3 * m) 0 ++ user) (replicate (M.slots k.usage) None)
+      (maker M.starts))
   opens laws few_rooms user few sized words =
       let views = starting M.starts 0 k.callers in let w = start m k.callers in
+      let n : ℕ = M.slots k.usage in
+      let slots : Slots S = map some (replicate n None) in
+      let slotted : length slots ≡ n = length-map (replicate n None) some
+      ∙ length-replicate n None in
       let first : (c : ℕ) → c < k.callers → IsAt views c (M.starts c) = λ c under.
       starting_at M.starts 0 k.callers c under
       ∙ ap (λ (z : ℕ). some (M.starts z)) (let q : 0 + c ≡ c = omega arith in q) in
       record {
         world = w;
         reached = ([], refl);
-        content = record { words = user; views = views };
+        content = record { words = user; slots = slots; views = views };
         words = ap (λ (l : List ℕ). l ++ user) (listed_start m k.callers);
         sized = sized;
+        slots = refl;
+        slotted = slotted;
         crowd = length-starting M.starts 0 k.callers;
         few_callers = few;
         few_rooms = few_rooms;
@@ -139,8 +149,8 @@ module _ {X V : Type 0} (M : Meaning X V) (m : ℕ) (k : Plan X) where
         kept = λ j v e. subst (λ (z : Shown V). ShowsKept M k.usage user z)
             (only_one (maker M.starts) v j e).1 (λ f. absurd (maker_not f));
         lawful = laws.starts k.usage k.callers
-            (record { words = user; views = views }) few sized words
-            (length-starting M.starts 0 k.callers) first;
+            (record { words = user; slots = slots; views = views }) few sized words
+            (length-starting M.starts 0 k.callers) slotted (λ j under. all_none n j None under) first;
         past = λ c v e. let q =
             starting_low M.starts M.last 0 k.callers c v laws.last_turns.starts e in omega arith;
         waits = λ c v e f. absurd (not_waiting (ap is_waiting (sym (outs k.callers c)) ∙ f));
@@ -175,6 +185,8 @@ module _ {X V : Type 0} (M : Meaning X V) (m : ℕ) (k : Plan X) where
         content = r.content;
         words = r.words;
         sized = r.sized;
+        slots = r.slots;
+        slotted = r.slotted;
         crowd = r.crowd;
         few_callers = r.few_callers;
         few_rooms = r.few_rooms;

@@ -61,7 +61,7 @@ length-opened (ExitBegun r ∷ t) = length-opened t
 length-opened (ExitEnded r ∷ t) = length-opened t
 
 -- the opening at each place has the next turn
-record IsNumbered (t : List Item) : Type 0 where
+pub record IsNumbered (t : List Item) : Type 0 where
   pub turn : (i : ℕ) (o : Opening) → IsAt (all_opened t) i o → o.turn ≡ i + 1
 
 numbered_on : (c : ℕ) (h : List Moment) (item : Item) (t : List Item) → Lawful c h item t
@@ -84,7 +84,7 @@ numbered_onto : (c : ℕ) (h : List Moment) (item : Option Item) (t : List Item)
 numbered_onto c h None t law old = old
 numbered_onto c h (Some item) t law old = numbered_on c h item t law old
 
-numbered : (h : List Moment) → LawfulBack h → IsNumbered (trace h)
+pub numbered : (h : List Moment) → LawfulBack h → IsNumbered (trace h)
 numbered [] law = record { turn = λ i o at. absurd (none_there i o at) }
 numbered (m ∷ h) law = numbered_onto m.caller h m.event.two (onto m.event.one (trace h)) law.1
     (numbered_onto m.caller h m.event.one (trace h) law.0 (numbered h law.2))

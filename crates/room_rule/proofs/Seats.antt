@@ -19,9 +19,9 @@ gone_not e = cc
 note_not : Note ≡ Pass → ⊥
 note_not e = cc
 
-module _ {X V : Type 0} (M : Meaning X V) (m : ℕ) (k : Plan X) where
+module _ {X S V : Type 0} (M : Meaning X S V) (m : ℕ) (k : Plan X) where
   -- the rule with other views, each of which shows what is so
-  pub with_views : (s : Table M m k) (r : Rule M m k s) (views : List (Shown V))
+  unfoldable pub with_views : (s : Table M m k) (r : Rule M m k s) (views : List (Shown V))
       → ((j : ℕ) (v : Shown V) → IsAt views j v → Knows r.world r.content.views r.roll j v.role v)
       → ((j : ℕ) (v : Shown V) → IsAt views j v → ShowsKept M k.usage r.content.words v)
       → Rule M m k (record { words = s.words; homes = s.homes; views = views })
@@ -31,6 +31,8 @@ module _ {X V : Type 0} (M : Meaning X V) (m : ℕ) (k : Plan X) where
     content = r.content;
     words = r.words;
     sized = r.sized;
+    slots = r.slots;
+    slotted = r.slotted;
     crowd = r.crowd;
     few_callers = r.few_callers;
     few_rooms = r.few_rooms;

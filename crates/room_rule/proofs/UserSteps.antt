@@ -1,8 +1,10 @@
 -- A step on a user word keeps the rule, where the use allows it.
 use Rattle.std.proofs.Common.{◌≡◌, ◌≢◌, ℕ, ◌+◌, ◌-◌, ◌*◌, ◌^◌, ◌<◌, ◌≤◌, ⊎_elim, inl, inr, Bool, true, false, Option, Some, None, List, length, get_or, set, sym, refl, ap, ◌∙◌, subst, arith, length-set, ◌++◌}
+use mathlib.Core.Option.{some, some-injective}
+use lib.ListN.{get_elem?}
 use Rattle.std.proofs.lemmas.Bool.{cases_eq}
 use Rattle.std.proofs.lemmas.List.{set-append_right, get_or-append_right, get_or-set_same, get_or-set_other}
-use Rattle.atomic_table.specs.Table.{keeps, stepped}
+use Rattle.atomic_table.specs.Table.{Act as SlotAct, keeps, carried_after, homes_after, stepped}
 use Rattle.atomic_table.proofs.Lists.{at_set, set_else}
 use Rattle.room_core.specs.declared.items.Opening.{Opening}
 use Rattle.room_core.specs.declared.phases.Phase.TheVariants.{Out, Inside, Exiting}
@@ -14,21 +16,25 @@ use Rattle.room_core.specs.Trace.{openings, last_opening}
 use Rattle.room_core.specs.Gate.{Gate, Shut, Held, Keyed, gate, gate_by, inside, leaver}
 use Rattle.room_core.proofs.Listed.{length-listed}
 use Rattle.room_core.proofs.Facts.{outsider, key_elsewhere, key_turn, exiter, insider, gate_held, held_turn}
-use Rattle.room_rule.specs.Use.{IsAt, written, Meaning, Outside, StandsInside, HasKey, StandsOutside, ShowsWords, user_place}
+use Rattle.room_rule.specs.Use.{IsAt, Slots, Content, Own, own, contents_of, slots_after, user_step, rewritten, written, Meaning, Outside, StandsInside, HasKey, StandsOutside, ShowsWords, user_place}
 use Rattle.room_rule.specs.Laws.{Laws}
 use Rattle.room_rule.specs.Steps.{CanStep, CanExit, CanTouch}
 use Rattle.room_rule.specs.View.{used, keyed}
 use Rattle.room_rule.specs.Rule.{Roll, Knows, ShowsKept, is_waiting, MayStillEnter}
-use Rattle.room_rule.specs.Told.{Seated, IsNoEvent}
+use Rattle.room_rule.specs.Told.{Seated, held_in, Carries, IsNoEvent}
 use Rattle.room_rule.specs.declared.rule.Plan.{Plan}
 use Rattle.room_rule.specs.declared.views.Role.{Role}
 use Rattle.room_rule.specs.declared.views.Role.TheVariants.{Maker, Pass, Note, Keeper, Gone}
 use Rattle.room_rule.specs.declared.views.Shown.{Shown}
 use Rattle.room_rule.proofs.Lists.{each_place, there_set}
+use Rattle.room_rule.proofs.Slots.{home, moves_one, same_slot, length_after}
 use Rattle.room_rule.proofs.Acts.{Table, Rule, mine, sizes_of}
 
 not_true : false ≡ true → ⊥
 not_true e = cc
+
+no_slot : (k : ℕ) → ◌≡◌ {A = Option ℕ} None (Some k) → ⊥
+no_slot k e = cc
 
 not_false : true ≡ false → ⊥
 not_false e = cc
@@ -61,7 +67,7 @@ outside_of (Some o) false exiting ins who c out free = out
 outside_of (Some o) true true ins who c out free = free refl
 outside_of (Some o) true false ins who c out free = tt
 
-module _ {X V : Type 0} (M : Meaning X V) (x : X) where
+module _ {X S V : Type 0} (M : Meaning X S V) (x : X) where
   -- a word is set, in what is shown too
   pub shows_set : (words kept : List ℕ) (word value : ℕ) → length words ≡ M.words x
       → ShowsWords M x kept words → ShowsWords M x (set kept word value) (set words word value)
@@ -131,7 +137,7 @@ others_know w views roll who seat id u mine apart Pass v h =
       known = h.known;
     }
 
-module _ {X V : Type 0} (M : Meaning X V) (m : ℕ) (k : Plan X) where
+module _ {X S V : Type 0} (M : Meaning X S V) (m : ℕ) (k : Plan X) where
   -- a user word in the table
   user_word : (s : Table M m k) (r : Rule M m k s) (word : ℕ)
       → get_or s.words (user_place m word) 0 ≡ get_or r.content.words word 0
@@ -156,9 +162,15 @@ module _ {X V : Type 0} (M : Meaning X V) (m : ℕ) (k : Plan X) where
 
   -- what a step of a caller on a user word owes
   record OwesUse (s : Table M m k) (r : Rule M m k s) (id : ℕ) (v : Shown V) (word value : ℕ)
-      (u : V) (kept : List ℕ) : Type 0 where
-    pub lawful : M.lawful k.usage (written r.content v.who u word value)
-        (gate (trace r.world.history))
+      (u : V) (kept : List ℕ) (slots : Slots S) (carried : List (ℕ × Option S))
+      (act : SlotAct (Option S)) : Type 0 where
+    pub lawful : M.lawful k.usage (record {
+      words = set r.content.words word value;
+      slots = slots;
+      views = set r.content.views v.who u;
+    }) (gate (trace r.world.history))
+    pub homes : homes_after s.homes carried act ≡ slots
+    pub slotted : length slots ≡ M.slots k.usage
     pub past : M.last u ≤ openings (trace r.world.history)
     pub waits : is_waiting (phase_of r.world.state v.who) ≡ true
         → MayStillEnter M k.usage r.world v.who u
@@ -167,11 +179,11 @@ module _ {X V : Type 0} (M : Meaning X V) (m : ℕ) (k : Plan X) where
         → ShowsKept M k.usage (set r.content.words word value) d
 
   used_on : (s : Table M m k) (r : Rule M m k s) (id : ℕ) (v : Shown V) (word value : ℕ) (u : V)
-      (kept : List ℕ) (cs : List (ℕ × Unit {0})) → IsAt s.views id v → v.role ≡ Pass
-      → OwesUse s r id v word value u kept
-      → (after : Rule M m k (stepped s (user_place m word) value id cs (keyed v u kept) keeps))
+      (kept : List ℕ) (slots : Slots S) (cs : List (ℕ × Option S)) (act : SlotAct (Option S))
+      → IsAt s.views id v → v.role ≡ Pass → OwesUse s r id v word value u kept slots cs act
+      → (after : Rule M m k (stepped s (user_place m word) value id cs (keyed v u kept) act))
       × (after.world ≡ r.world)
-  used_on s r id v word value u kept cs at is o =
+  used_on s r id v word value u kept slots cs act at is o =
       let h = mine M m k s r id v at is in let w = r.world in let now = keyed v u kept in
       let views' = set r.content.views v.who u in
       let So : ℕ → Shown V → Type 0 = λ j d. Knows w views' r.roll j d.role d in
@@ -187,9 +199,15 @@ module _ {X V : Type 0} (M : Meaning X V) (m : ℕ) (k : Plan X) where
         record {
           world = w;
           reached = r.reached;
-          content = written r.content v.who u word value;
+          content = record {
+            words = set r.content.words word value;
+            slots = slots;
+            views = views';
+          };
           words = user_word_set s r word value;
           sized = length-set r.content.words word value ∙ r.sized;
+          slots = o.homes;
+          slotted = o.slotted;
           crowd = length-set r.content.views v.who u ∙ r.crowd;
           few_callers = r.few_callers;
           few_rooms = r.few_rooms;
@@ -244,17 +262,41 @@ module _ {X V : Type 0} (M : Meaning X V) (m : ℕ) (k : Plan X) where
       sym (mine M m k s r j d there its).seat
       ∙ (ap r.roll.seat_of who ∙ (mine M m k s r id v at is).seat)
 
+  -- a slot that a step takes is at home, since nobody else keeps it after the step either
+  taken_home : Laws M → (s : Content S V) (who : ℕ) (v u : V) (word value j : ℕ)
+      (contents : Option S) (g : Gate) → length s.slots ≡ M.slots k.usage
+      → M.lawful k.usage s g → IsAt s.views who v
+      → M.lawful k.usage (written M s who v word value u contents) g → M.keeps v ≡ None
+      → M.keeps u ≡ Some j → (y : Option S) × IsAt s.slots j (some y)
+  taken_home laws s who v u word value j contents g long lawful at next none_before takes =
+      let after = written M s who v word value u contents in
+      let its : IsAt after.views who u = there_set s.views who v u at in
+      let below = (laws.slots.insiders k.usage after g who u j next its takes).1 in
+      home M laws.slots k.usage s g lawful j below long (λ kept.
+      elim (cases_eq kept.0 who) [
+        | inl same ↦ (
+            let is : kept.1 ≡ v = some-injective kept.1 v
+            (sym kept.2 ∙ (ap (get_elem? s.views) same ∙ at)) in
+            no_slot j (sym none_before ∙ (ap M.keeps (sym is) ∙ kept.3)))
+        | inr ne ↦ ne
+            (laws.slots.one k.usage after g kept.0 who kept.1 u j next
+            (set_else s.views who kept.0 u ne ∙ kept.2) its kept.3 takes)
+      ])
+
   -- a step of an insider
-  pub steps : Laws M → (slots id : ℕ) (me : Seated V) (room ticket turn to word : ℕ)
+  pub steps : Laws M → (slots id : ℕ) (me : Seated S V) (room ticket turn to word : ℕ)
       (first : Option ℕ) (change plain : ℕ → ℕ) (fits : ℕ → Type 0)
-      (tells : V → ℕ → ℕ → V → Type 0) (then : ℕ → Seated V → Type 0)
+      (tells : Own S V → ℕ → ℕ → Own S V → Type 0) (then : ℕ → Seated S V → Type 0)
       → me.0.role ≡ Pass → me.0.phase ≡ Inside room ticket first turn to → word < M.words k.usage
-      → CanStep M k.usage me.0.who me.0.user word plain room turn fits tells
+      → Carries (M.keeps me.0.user) me.1
+      → CanStep M k.usage me.0.who me.0.user word plain room turn (held_in me.1) fits tells
       → ((n : ℕ) → n < 2 ^ 64 → fits n → change n ≡ plain n)
-      → ((n : ℕ) (u : V) → tells me.0.user n (plain n) u → then n (used me.0 u, me.1))
+      → ((n : ℕ) (u : V) (carried : List (ℕ × Option S)) → Carries (M.keeps u) carried
+      → tells (own me.0.user (held_in me.1)) n (plain n) (own u (held_in carried))
+      → then n (used me.0 u, carried))
       → IsNoEvent M m k slots id me (user_place m word) change then
   steps laws slots id me room ticket turn to word first change plain fits tells then is at there
-      asks same told s r _ here small_word =
+      has asks same told s r _ here small_word =
       let v : Shown V = me.0 in let h = mine M m k s r id v here is in let w = r.world in
       let t = trace w.history in
       let L = M.lawful k.usage in
@@ -269,26 +311,43 @@ module _ {X V : Type 0} (M : Meaning X V) (m : ℕ) (k : Plan X) where
       record {
         lawful = subst (L r.content) gate_is r.lawful;
         sized = r.sized;
+        slotted = r.slotted;
         view =
             h.user;
         inside = g.1;
       } in
       let a = asks r.content (inside t) stands fine in let u : V = a.1.0 in
+      let held = held_in me.1 in let contents = contents_of held in
       let next = laws.steps k.usage r.content room turn (inside t) v.who v.user word
-      (plain n) u stands there a.1.1 in
+      (plain n) u contents stands there a.1.1 in
       let low : M.last u ≤ openings t = ⊎_elim
       (λ (q : M.last u ≡ M.last v.user). let old = r.past v.who v.user h.user in omega arith)
-      (λ (q : M.last u ≡ turn). let held =
+      (λ (q : M.last u ≡ turn). let held_now =
       held_turn m k.callers r.few_rooms r.few_callers w r.reached room turn to now in
       omega arith)
       (laws.last_turns.steps k.usage r.content room turn (inside t) v.who v.user word
-      (plain n) u stands there a.1.1) in (
+      (plain n) u contents stands there a.1.1) in
+      let slots' = slots_after r.content.slots (M.keeps v.user) (M.keeps u) contents in
+      let one = laws.slots.moves k.usage room
+      (user_step r.content (Held room turn (inside t)) v.who word (plain n) u contents) v.user
+      h.user a.1.1 in
+      let mv = moves_one s.homes r.content.slots me.1 (M.keeps v.user) (M.keeps u) r.slots has
+      (λ none_before j takes.
+      taken_home laws r.content v.who v.user u word (plain n) j contents
+      (Held room turn (inside t)) r.slotted stands.lawful h.user next none_before takes)
+      (λ i j x y. same_slot (M.keeps v.user) (M.keeps u) i j one x y) in (
         used v u,
+        mv.act,
+        mv.valid,
         subst (λ (z : ℕ). (after : Rule M m k
-            (stepped s (user_place m word) z id me.1 (used v u) keeps)) × (after.world ≡ w))
+            (stepped s (user_place m word) z id me.1 (used v u) mv.act)) × (after.world ≡ w))
             (sym (ap change e ∙ same n fine a.0))
-            (used_on s r id v word (plain n) u v.kept me.1 here is (record {
-              lawful = subst (L (written r.content v.who u word (plain n))) (sym gate_is) next;
+            (used_on s r id v word (plain n) u v.kept slots' me.1 mv.act here is (record {
+              lawful = subst (L (written M r.content v.who v.user word (plain n) u contents))
+                  (sym gate_is) next;
+              homes = mv.homes;
+              slotted = length_after r.content.slots (M.keeps v.user) (M.keeps u) contents
+                  ∙ r.slotted;
               past = low;
               waits = λ q. absurd (not_true (ap is_waiting (sym phase) ∙ q));
               own = λ _ a b q. absurd (inside_not room ticket turn to a b first (sym at ∙ q));
@@ -296,12 +355,15 @@ module _ {X V : Type 0} (M : Meaning X V) (m : ℕ) (k : Plan X) where
                   absurd (not_keyed (gate t) a b d.who (keyed_by s r j d a b there its q)
                   (ap is_keyed gate_is));
             })),
-        subst (λ (z : ℕ). then z (used v u, me.1)) (sym e) (told n u a.1.2),
+        subst (λ (z : ℕ). then z (used v u, carried_after me.1 mv.act)) (sym e)
+            (told n u (carried_after me.1 mv.act) mv.carries
+            (subst (λ (z : Option (Option S)).
+            tells (own v.user held) n (plain n) (own u z)) (sym mv.held) a.1.2)),
       )
 
   -- a step of the key's holder
-  pub exits : Laws M → (slots id : ℕ) (me : Seated V) (room turn word : ℕ) (change plain : ℕ → ℕ)
-      (kept' : ℕ → List ℕ) (tells : V → ℕ → ℕ → V → Type 0) (then : ℕ → Seated V → Type 0)
+  pub exits : Laws M → (slots id : ℕ) (me : Seated S V) (room turn word : ℕ) (change plain : ℕ → ℕ)
+      (kept' : ℕ → List ℕ) (tells : Own S V → ℕ → ℕ → Own S V → Type 0) (then : ℕ → Seated S V → Type 0)
       → me.0.role ≡ Pass → me.0.phase ≡ Exiting room turn → word < M.words k.usage
       → CanExit M k.usage me.0.who me.0.user word plain room turn me.0.kept tells
       → ((n : ℕ) → n < 2 ^ 64 → change n ≡ plain n)
@@ -309,7 +371,7 @@ module _ {X V : Type 0} (M : Meaning X V) (m : ℕ) (k : Plan X) where
       → ShowsWords M k.usage (kept' (get_or words word 0))
       (set words word (plain (get_or words word 0))))
       → ((n : ℕ) (u : V) → (M.is_touch k.usage word ≡ false → n ≡ get_or me.0.kept word 0)
-      → length me.0.kept ≡ M.words k.usage → tells me.0.user n (plain n) u
+      → length me.0.kept ≡ M.words k.usage → tells (own me.0.user None) n (plain n) (own u None)
       → then n (keyed me.0 u (kept' n), me.1))
       → IsNoEvent M m k slots id me (user_place m word) change then
   exits laws slots id me room turn word change plain kept' tells then is at there asks same keeps'
@@ -327,6 +389,7 @@ module _ {X V : Type 0} (M : Meaning X V) (m : ℕ) (k : Plan X) where
       record {
         lawful = subst (L r.content) gate_is r.lawful;
         sized = r.sized;
+        slotted = r.slotted;
         view =
             h.user;
       } in
@@ -341,11 +404,15 @@ module _ {X V : Type 0} (M : Meaning X V) (m : ℕ) (k : Plan X) where
       (laws.last_turns.exits k.usage r.content room turn v.who v.user word
       (plain n) u has there a.1) in (
         keyed v u (kept' n),
+        keeps,
+        tt,
         subst (λ (z : ℕ). (after : Rule M m k
             (stepped s (user_place m word) z id me.1 (keyed v u (kept' n)) keeps))
             × (after.world ≡ w)) (sym (ap change e ∙ same n fine))
-            (used_on s r id v word (plain n) u (kept' n) me.1 here is (record {
-              lawful = subst (L (written r.content v.who u word (plain n))) (sym gate_is) next;
+            (used_on s r id v word (plain n) u (kept' n) r.content.slots me.1 keeps here is (record {
+              lawful = subst (L (rewritten r.content v.who word (plain n) u)) (sym gate_is) next;
+              homes = r.slots;
+              slotted = r.slotted;
               past = low;
               waits = λ q. absurd (not_true (ap is_waiting (sym phase) ∙ q));
               own = λ _ _ _ _. keeps' r.content.words r.sized known;
@@ -358,12 +425,13 @@ module _ {X V : Type 0} (M : Meaning X V) (m : ℕ) (k : Plan X) where
 
   -- a touch
   pub touches : Laws M
-      → (slots id : ℕ) (me : Seated V) (word : ℕ) (change plain : ℕ → ℕ) (fits : ℕ → Type 0)
-      (tells : V → ℕ → ℕ → V → Type 0) (then : ℕ → Seated V → Type 0)
+      → (slots id : ℕ) (me : Seated S V) (word : ℕ) (change plain : ℕ → ℕ) (fits : ℕ → Type 0)
+      (tells : Own S V → ℕ → ℕ → Own S V → Type 0) (then : ℕ → Seated S V → Type 0)
       → me.0.role ≡ Pass → me.0.phase ≡ Out → word < M.words k.usage
       → CanTouch M k.usage me.0.who me.0.user word plain fits tells
       → ((n : ℕ) → n < 2 ^ 64 → fits n → change n ≡ plain n)
-      → ((n : ℕ) (u : V) → tells me.0.user n (plain n) u → then n (used me.0 u, me.1))
+      → ((n : ℕ) (u : V) → tells (own me.0.user None) n (plain n) (own u None)
+      → then n (used me.0 u, me.1))
       → IsNoEvent M m k slots id me (user_place m word) change then
   touches laws slots id me word change plain fits tells then is at there asks same told s r _ here
       small_word =
@@ -378,7 +446,13 @@ module _ {X V : Type 0} (M : Meaning X V) (m : ℕ) (k : Plan X) where
       (outsider m k.callers r.few_rooms r.few_callers w r.reached v.who phase)
       (key_elsewhere m k.callers r.few_rooms r.few_callers w r.reached v.who phase) in
       let stands : StandsOutside M k.usage (gate t) v.who v.user r.content =
-      record { lawful = r.lawful; sized = r.sized; view = h.user; outside = out } in
+      record {
+        lawful = r.lawful;
+        sized = r.sized;
+        slotted = r.slotted;
+        view = h.user;
+        outside = out;
+      } in
       let a = asks r.content (gate t) stands fine in let u : V = a.1.0 in
       let next = laws.touches k.usage r.content (gate t) v.who v.user word
       (plain n) u stands there a.1.1 in
@@ -394,14 +468,19 @@ module _ {X V : Type 0} (M : Meaning X V) (m : ℕ) (k : Plan X) where
         value =
             plain n;
         after = u;
+        contents = None;
       }) a.1.1 in
       let low : M.last u ≤ openings t = (let old = r.past v.who v.user h.user in omega arith) in (
         used v u,
+        keeps,
+        tt,
         subst (λ (z : ℕ). (after : Rule M m k
             (stepped s (user_place m word) z id me.1 (used v u) keeps)) × (after.world ≡ w))
             (sym (ap change e ∙ same n fine a.0))
-            (used_on s r id v word (plain n) u v.kept me.1 here is (record {
+            (used_on s r id v word (plain n) u v.kept r.content.slots me.1 keeps here is (record {
               lawful = next;
+              homes = r.slots;
+              slotted = r.slotted;
               past = low;
               waits = λ q. absurd (not_true (ap is_waiting (sym phase) ∙ q));
               own = λ _ a b q. absurd (out_not a b (sym at ∙ q));

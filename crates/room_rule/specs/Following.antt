@@ -1,4 +1,5 @@
--- That the table follows the protocol: each step that a call may make is its caller's act, or none.
+-- That the table follows the protocol and the use: each step on a word of the rooms is its caller's
+-- act, and a step on a user word that the use allows is no act, and keeps the content lawful.
 use Rattle.std.specs.Prelude.{◌≡◌, ℕ, ◌+◌, ◌%◌, ◌^◌, ◌<◌, Option, Some}
 use Rattle.room_core.specs.declared.acts.Act.TheVariants.{Draw, Step, Leave}
 use Rattle.room_core.specs.declared.phases.Phase.{Phase}
@@ -6,9 +7,10 @@ use Rattle.room_core.specs.declared.phases.Phase.TheVariants.{Out, Looking, Coun
 use Rattle.room_core.specs.declared.words.Word.TheVariants.{Wait, Done}
 use Rattle.room_core.specs.Words.{place}
 use Rattle.room_core.specs.Moves.{Kind, Stores, Move, move, drawing_move, value_of}
-use Rattle.room_rule.specs.Use.{Meaning, RestsOn}
+use Rattle.room_rule.specs.Use.{Own, Meaning, RestsOn, user_place}
+use Rattle.room_rule.specs.Steps.{CanStep, CanExit, CanTouch}
 use Rattle.room_rule.specs.View.{moved}
-use Rattle.room_rule.specs.Told.{Seated, stepped_by, left_by, IsEvent}
+use Rattle.room_rule.specs.Told.{Seated, held_in, Carries, stepped_by, left_by, IsEvent, IsNoEvent}
 use Rattle.room_rule.specs.declared.rule.Plan.{Plan}
 use Rattle.room_rule.specs.declared.views.Role.TheVariants.{Pass}
 use Rattle.room_rule.specs.declared.views.Shown.{Shown}
@@ -18,7 +20,7 @@ abbrev pub told : Kind → ℕ → ℕ
 told (Stores value) n = value
 told _ n = n
 
-module _ {X V : Type 0} (M : Meaning X V) (rooms : ℕ) where
+module _ {X S V : Type 0} (M : Meaning X S V) (rooms : ℕ) where
   -- the room exists, and who ends its exit code shows words that rest
   abbrev pub MayGo : X → Shown V → Phase → Type 0
   MayGo x v (Looking room ticket first) = room < rooms
@@ -29,7 +31,7 @@ module _ {X V : Type 0} (M : Meaning X V) (rooms : ℕ) where
 
   -- the step of the row of a caller's phase, on the word of that row
   abbrev pub StepsAreActs : Type 0
-  StepsAreActs = (k : Plan X) (slots id : ℕ) (me : Seated V) (mv : Move)
+  StepsAreActs = (k : Plan X) (slots id : ℕ) (me : Seated S V) (mv : Move)
       → me.0.role ≡ Pass
       → move rooms me.0.who me.0.phase ≡ Some mv
       → MayGo k.usage me.0 me.0.phase
@@ -38,7 +40,7 @@ module _ {X V : Type 0} (M : Meaning X V) (rooms : ℕ) where
 
   -- the add by which a caller that is out draws
   abbrev pub DrawsAreActs : Type 0
-  DrawsAreActs = (k : Plan X) (slots id : ℕ) (me : Seated V) (room : ℕ)
+  DrawsAreActs = (k : Plan X) (slots id : ℕ) (me : Seated S V) (room : ℕ)
       → me.0.role ≡ Pass
       → me.0.phase ≡ Out
       → room < rooms
@@ -49,10 +51,44 @@ module _ {X V : Type 0} (M : Meaning X V) (rooms : ℕ) where
 
   -- the add by which an insider leaves
   abbrev pub LeavesAreActs : Type 0
-  LeavesAreActs = (k : Plan X) (slots id : ℕ) (me : Seated V) (room ticket turn to : ℕ)
+  LeavesAreActs = (k : Plan X) (slots id : ℕ) (me : Seated S V) (room ticket turn to : ℕ)
       (first : Option ℕ)
       → me.0.role ≡ Pass
       → me.0.phase ≡ Inside room ticket first turn to
       → M.may_leave k.usage me.0.user
       → IsEvent M rooms k slots id me (place rooms (Done room)) (λ n. (n + 1) % 2 ^ 64)
       (λ n me'. left_by me n me') Leave
+
+  -- asks nothing
+  abbrev pub anything : Own S V → ℕ → ℕ → Own S V → Type 0
+  anything before old new after = Unit {0}
+
+  -- a step of an insider on a user word, which the use allows; it may move a slot
+  abbrev pub InsidersKeepIt : Type 0
+  InsidersKeepIt = (k : Plan X) (slots id : ℕ) (me : Seated S V)
+      (room ticket turn to word : ℕ) (first : Option ℕ) (change : ℕ → ℕ)
+      → me.0.role ≡ Pass
+      → me.0.phase ≡ Inside room ticket first turn to
+      → word < M.words k.usage
+      → Carries (M.keeps me.0.user) me.1
+      → CanStep M k.usage me.0.who me.0.user word change room turn (held_in me.1) (λ n. Unit {0})
+      anything
+      → IsNoEvent M rooms k slots id me (user_place rooms word) change (λ n me'. Unit {0})
+
+  -- a step of the key's holder on a user word, which the use allows
+  abbrev pub HoldersKeepIt : Type 0
+  HoldersKeepIt = (k : Plan X) (slots id : ℕ) (me : Seated S V) (room turn word : ℕ) (change : ℕ → ℕ)
+      → me.0.role ≡ Pass
+      → me.0.phase ≡ Exiting room turn
+      → word < M.words k.usage
+      → CanExit M k.usage me.0.who me.0.user word change room turn me.0.kept anything
+      → IsNoEvent M rooms k slots id me (user_place rooms word) change (λ n me'. Unit {0})
+
+  -- a step of a caller outside all rooms on a user word, which the use allows
+  abbrev pub TouchesKeepIt : Type 0
+  TouchesKeepIt = (k : Plan X) (slots id : ℕ) (me : Seated S V) (word : ℕ) (change : ℕ → ℕ)
+      → me.0.role ≡ Pass
+      → me.0.phase ≡ Out
+      → word < M.words k.usage
+      → CanTouch M k.usage me.0.who me.0.user word change (λ n. Unit {0}) anything
+      → IsNoEvent M rooms k slots id me (user_place rooms word) change (λ n me'. Unit {0})

@@ -5,6 +5,7 @@ pub mod View
 pub mod Rule
 pub mod Told
 pub mod Steps
+pub mod Looking
 pub mod Closes
 pub mod Plainly
 pub mod Following

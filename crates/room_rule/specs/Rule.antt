@@ -1,6 +1,6 @@
--- The rule of the table: words and views show a state that the protocol reaches, and the user words
--- and views are lawful for its gate.
-use Rattle.std.specs.Prelude.{◌≡◌, ℕ, ◌<◌, ◌≤◌, nat_lt, Bool, true, false, List, ◌++◌, length, slice_index}
+-- The rule of the table: words and views show a state that the protocol reaches, and the user words,
+-- slots and user views are lawful for its gate.
+use Rattle.std.specs.Prelude.{◌≡◌, ℕ, ◌<◌, ◌≤◌, nat_lt, Bool, true, false, Option, List, ◌++◌, length, slice_index}
 use Rattle.atomic_table.specs.Table.{State}
 use Rattle.room_core.specs.declared.phases.Phase.{Phase}
 use Rattle.room_core.specs.declared.phases.Phase.TheVariants.{Out, Looking, Glancing, Seizing, Counting, Admitting, Turning, Exiting}
@@ -68,7 +68,7 @@ is_waiting (Admitting room ticket first turn to) = nat_lt 0 ticket
 is_waiting (Turning room ticket first to) = true
 is_waiting _ = false
 
-module _ {X V : Type 0} (M : Meaning X V) where
+module _ {X S V : Type 0} (M : Meaning X S V) where
   -- a caller that waits may enter, and took its last step before the openings after its draw
   pub record MayStillEnter (x : X) (world : World) (c : ℕ) (v : V) : Type 0 where
     pub last : M.last v ≤ since c world.history
@@ -79,14 +79,17 @@ module _ {X V : Type 0} (M : Meaning X V) where
   ShowsKept x words v = v.role ≡ Pass → (room turn : ℕ) → v.phase ≡ Exiting room turn
       → ShowsWords M x v.kept words
 
-  pub record Ruled (m : ℕ) (k : Plan X) (s : State (Unit {0}) (Shown V)) : Type 0 where
+  pub record Ruled (m : ℕ) (k : Plan X) (s : State (Option S) (Shown V)) : Type 0 where
     -- the words of the table are those of the rooms, in a state that the protocol reaches, and then
     -- those of the use
     pub world : World
     pub reached : Reached m k.callers world
-    pub content : Content V
+    pub content : Content S V
     pub words : s.words ≡ listed world.state.words ++ content.words
     pub sized : length content.words ≡ M.words k.usage
+    -- its slots are those of the use
+    pub slots : s.homes ≡ content.slots
+    pub slotted : length content.slots ≡ M.slots k.usage
     pub crowd : length content.views ≡ k.callers
     pub few_callers : k.callers ≤ 64
     pub few_rooms : m ≤ 7

@@ -1,38 +1,44 @@
 -- What a step on a user word asks of its caller.
-use Rattle.std.specs.Prelude.{ℕ, ◌^◌, ◌<◌, Bool, List, slice_index}
+use Rattle.std.specs.Prelude.{ℕ, ◌^◌, ◌<◌, Bool, Option, None, List, slice_index}
 use Rattle.room_core.specs.Gate.{Gate, Held, Keyed}
-use Rattle.room_rule.specs.Use.{Content, UserStep, user_step, Meaning}
+use Rattle.room_rule.specs.Use.{Content, Own, own, contents_of, held_after, UserStep, user_step, Meaning}
 use Rattle.room_rule.specs.Use.{StandsInside, HasKey, StandsOutside, ShowsWords}
 
-module _ {X V : Type 0} (M : Meaning X V) (x : X) (who : ℕ) (v : V) (word : ℕ)
+module _ {X S V : Type 0} (M : Meaning X S V) (x : X) (who : ℕ) (v : V) (word : ℕ)
     (change : ℕ → ℕ) where
   -- There is a view after the step, which makes of the word what `change` says, with which the
-  -- step may be made; and `then` holds of the view before, the word's old and new value, and the
-  -- view after.
-  abbrev pub CanGo : (UserStep V → Type 0) → (V → ℕ → ℕ → V → Type 0) → Content V → Gate → Type 0
-  CanGo may then s gate =
+  -- step may be made; and `then` holds of what the caller has before, the word's old and new value,
+  -- and what it has after. `held` is what it holds before, and `holds` what it holds with the view
+  -- after.
+  abbrev pub CanGo : Option (Option S) → (V → Option (Option S)) → (UserStep S V → Type 0)
+      → (Own S V → ℕ → ℕ → Own S V → Type 0) → Content S V → Gate → Type 0
+  CanGo held holds may then s gate =
       let old = slice_index s.words word in
-      (after : V) × may (user_step s gate who word (change old) after)
-      × then v old (change old) after
+      (after : V) × may (user_step s gate who word (change old) after (contents_of held))
+      × then (own v held) old (change old) (own after (holds after))
 
   -- in each lawful content in which the caller stands inside so, the word fits, and it can go
-  abbrev pub CanStep : ℕ → ℕ → (ℕ → Type 0) → (V → ℕ → ℕ → V → Type 0) → Type 0
-  CanStep room turn fits then = (s : Content V) (ins : ℕ → Bool)
+  abbrev pub CanStep : ℕ → ℕ → Option (Option S) → (ℕ → Type 0)
+      → (Own S V → ℕ → ℕ → Own S V → Type 0) → Type 0
+  CanStep room turn held fits then = (s : Content S V) (ins : ℕ → Bool)
       → StandsInside M x room turn ins who v s
       → slice_index s.words word < 2 ^ 64
-      → fits (slice_index s.words word) × CanGo (M.may_step x room) then s (Held room turn ins)
+      → fits (slice_index s.words word)
+      × CanGo held (λ after. held_after s.slots (M.keeps v) (M.keeps after) held)
+      (M.may_step x room) then s (Held room turn ins)
 
   -- in each in which it has the key so, and the words stand as `kept` shows, it can go
-  abbrev pub CanExit : ℕ → ℕ → List ℕ → (V → ℕ → ℕ → V → Type 0) → Type 0
-  CanExit room turn kept then = (s : Content V)
+  abbrev pub CanExit : ℕ → ℕ → List ℕ → (Own S V → ℕ → ℕ → Own S V → Type 0) → Type 0
+  CanExit room turn kept then = (s : Content S V)
       → HasKey M x room turn who v s
       → ShowsWords M x kept s.words
       → slice_index s.words word < 2 ^ 64
-      → CanGo (M.may_exit x room) then s (Keyed room turn who)
+      → CanGo None (λ after. None) (M.may_exit x room) then s (Keyed room turn who)
 
   -- in each in which it stands outside all rooms so, the word fits, and it can go
-  abbrev pub CanTouch : (ℕ → Type 0) → (V → ℕ → ℕ → V → Type 0) → Type 0
-  CanTouch fits then = (s : Content V) (gate : Gate)
+  abbrev pub CanTouch : (ℕ → Type 0) → (Own S V → ℕ → ℕ → Own S V → Type 0) → Type 0
+  CanTouch fits then = (s : Content S V) (gate : Gate)
       → StandsOutside M x gate who v s
       → slice_index s.words word < 2 ^ 64
-      → fits (slice_index s.words word) × CanGo (M.may_touch x) then s gate
+      → fits (slice_index s.words word)
+      × CanGo None (λ after. None) (M.may_touch x) then s gate

@@ -1,7 +1,7 @@
 //! Rooms alone.
 use crate::uses::RoomUse;
 
-/// Four rooms, with no words.
+/// Four rooms, with no words and no slots.
 #[derive(Drop)]
 pub struct Bare;
 
@@ -9,6 +9,8 @@ impl RoomUse for Bare {
     ghost use Rattle.room_rule.specs.Plainly.{plain, plain_laws};
 
     type View = ();
+
+    type Slot = ();
 
     ghost ROOMS = { 4 };
 
@@ -19,6 +21,10 @@ impl RoomUse for Bare {
     ghost laws = { plain_laws tt };
 
     fn words(&self) -> usize {
+        0
+    }
+
+    fn slots(&self) -> usize {
         0
     }
 

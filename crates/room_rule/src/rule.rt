@@ -13,13 +13,13 @@ pub struct Plan<U> {
     pub callers: u32,
 }
 
-/// The rule: words and views show a state that the protocol reaches, and the user words and the
-/// user views are lawful for the gate of that state.
+/// The rule: words and views show a state that the protocol reaches, and the user words, the slots
+/// and the user views are lawful for the gate of that state.
 pub struct RoomRule<U> {
     usage: PhantomData<U>,
 }
 
-impl<U: RoomUse> TableRule<(), Shown<U::View>, Plan<U>> for RoomRule<U> {
+impl<U: RoomUse> TableRule<Option<U::Slot>, Shown<U::View>, Plan<U>> for RoomRule<U> {
     ghost use Rattle.room_rule.specs.Rule.{Ruled};
     ghost use Rattle.room_rule.specs.View.{maker};
 

@@ -22,9 +22,10 @@ fn each_word_has_its_place(rt: HostRuntime) {
 }
 
 #[test]
-fn rooms_alone_have_no_words(rt: HostRuntime) {
+fn rooms_alone_have_no_words_and_no_slots(rt: HostRuntime) {
     assert_eq!(rt; Bare::ROOMS, 4);
     assert_eq!(rt; Bare.words(), 0);
+    assert_eq!(rt; Bare.slots(), 0);
     assert_eq!(rt; Bare.start(0, 2), 0);
 }
 
