@@ -1,2 +1,7 @@
 pub mod Stepping
 pub mod Making
+pub mod LeavingSteps
+pub mod Closing
+pub mod UserWords
+pub mod Meeting
+pub mod Counting

@@ -1,48 +1,49 @@
 -- What the loops of a set-up keep.
-use Rattle.std.proofs.Common.{◌≡◌, ℕ, ◌+◌, ◌*◌, List, [], ◌∷◌, ◌++◌, length, replicate, get_or, refl, ap, sym, ◌∙◌, subst, append_assoc, length-append, arith, append-nil, ⊎_elim}
-use mathlib.Core.Logic.{dite}
-use native.Mathlib.Decide.{ℕ_discrete}
-use Rattle.std.proofs.lemmas.List.{get_or_append_left, get_or-append-add}
+use Rattle.std.proofs.Common.{Option, None, ◌≡◌, ℕ, ◌+◌, List, [], ◌∷◌, ◌++◌, length, refl, ap, sym, ◌∙◌, subst, length-append, arith, ⊎_elim}
 use Rattle.atomic_table.specs.Seated.{TableId}
-use Rattle.room_rule.specs.Use.{Meaning}
+use Rattle.room_rule.specs.Told.{Seated, Carries}
+use Rattle.room_rule.specs.View.{after_hire, hired}
+use Rattle.atomic_table.specs.declared.shared.Seat.{Seat}
+use Rattle.room_rule.specs.declared.views.Shown.{Shown}
+use Rattle.room_gate.specs.PassModel.{seen_of}
+use Rattle.room_rule.specs.declared.views.Role.TheVariants.{Maker}
 use Rattle.room_rule.proofs.Lists.{at_end, none_there}
 use Rattle.room_gate.specs.Shows.{Caller, newcomer}
-use Rattle.room_gate.specs.Making.{ArePasses, IsLaidOut}
+use Rattle.room_gate.specs.Making.{ArePasses}
 
-module _ {X V : Type 0} (rooms : ℕ) (M : Meaning X V) (x : X) (callers : ℕ) where
-  -- no user word yet
-  pub laid_none : (words : List ℕ) → words ≡ replicate (1 + 3 * rooms) 0
-      → IsLaidOut rooms M x callers 0 words
-  laid_none words e =
-      record {
-        user = [];
-        is = e
-            ∙ sym (append-nil (replicate (1 + 3 * rooms) 0));
-        long = refl;
-        each =
-            λ i h. absurd (omega arith);
-      }
+-- what no slot is carried for
+pub carries_none : {S : Type 0} (keeps : Option ℕ) (carried : List (ℕ × Option S)) → keeps ≡ None
+    → carried ≡ [] → Carries keeps carried
+carries_none keeps carried e f = subst (λ (z : Option ℕ). Carries z carried) (sym e) f
 
-  -- one more
-  pub laid_more : (done value : ℕ) (words : List ℕ) → value ≡ M.start x callers done
-      → IsLaidOut rooms M x callers done words
-      → IsLaidOut rooms M x callers (done + 1) (words ++ value ∷ [])
-  laid_more done value words e h =
-      let long = h.long in
-      record {
-        user = h.user ++ value ∷ [];
-        is = ap (λ (l : List ℕ). l ++ value ∷ []) h.is
-            ∙ append_assoc (replicate (1 + 3 * rooms) 0) h.user (value ∷ []);
-        long = length-append h.user (value ∷ [])
-            ∙ (let q : length h.user + 1 ≡ done + 1 = omega arith in q);
-        each = λ i under. dite (ℕ_discrete i done)
-            (λ same. let at : i ≡ length h.user + 0 = omega arith in
-            ap (λ (z : ℕ). get_or (h.user ++ value ∷ []) z 0) at
-            ∙ (get_or-append-add h.user (value ∷ []) 0 0
-            ∙ (e ∙ ap (M.start x callers) (sym same))))
-            (λ other. get_or_append_left h.user (value ∷ []) 0 i (omega arith)
-            ∙ h.each i (omega arith));
-      }
+pub none_carried : {S : Type 0} (keeps : Option ℕ) (carried : List (ℕ × Option S)) → keeps ≡ None
+    → Carries keeps carried → carried ≡ []
+none_carried keeps carried e f = subst (λ (z : Option ℕ). Carries z carried) e f
+
+-- the maker has made one pass more
+pub maker_again : {S V : Type 0} (before after : Seated S V) (who : ℕ)
+    → after ≡ (after_hire before.0, before.1) → before.0.role ≡ Maker → before.0.who ≡ who
+    → (after.0.role ≡ Maker) × (after.0.who ≡ who + 1)
+maker_again before after who e role number = (
+  ap (λ (z : Seated _ _). z.0.role) e ∙ role,
+  ap (λ (z : Seated _ _). z.0.who) e ∙ ap (λ (n : ℕ). n + 1) number,
+)
+
+-- a seat that the maker has made is a newcomer's
+pub hired_is_new : {S V : Type 0} (starts : ℕ → V) (seat : Seat (Option S) (Shown V)) (maker : Shown V)
+    (site : TableId) (limit who : ℕ) → seat.table_id ≡ site → seat.me ≡ (hired starts maker, [])
+    → maker.who ≡ who → seen_of seat who 0 limit ≡ newcomer site limit starts who
+hired_is_new starts seat maker site limit who own e number = λ i. record {
+  site = own i;
+  who = who;
+  draws = 0;
+  limit = limit;
+  user = (ap (λ (z : Seated _ _). z.0.user) e ∙ ap starts number) i;
+  seen = (e i).0.seen;
+  first = (e i).0.first;
+  loads = (e i).0.loads;
+  done = (e i).0.done;
+}
 
 module _ {V : Type 0} (site : TableId) (limit : ℕ) (starts : ℕ → V) where
   pub no_passes : ArePasses site limit starts 0 []

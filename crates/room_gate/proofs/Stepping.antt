@@ -1,5 +1,5 @@
 -- What the step of each row leaves of a seat.
-use Rattle.std.proofs.Common.{◌≡◌, ◌∙◌, ℕ, zero, suc, ◌+◌, ◌^◌, ◌<◌, ◌≤◌, Bool, true, false, cond, eqb, leb, Some, Option, List, ap, sym, subst, refl, arith}
+use Rattle.std.proofs.Common.{◌≡◌, ◌∙◌, ℕ, zero, suc, ◌+◌, ◌^◌, ◌<◌, ◌≤◌, Bool, true, false, cond, eqb, leb, Some, None, Option, List, ap, sym, subst, refl, arith}
 use Rattle.atomic_table.specs.declared.shared.Seat.{Seat}
 use Rattle.room_core.specs.declared.acts.Act.TheVariants.{Step}
 use Rattle.room_core.specs.declared.items.Opening.{Opening}
@@ -14,14 +14,14 @@ use Rattle.room_rule.specs.Told.{Seated, ComesIn, Looks, Arrives, stepped_by}
 use Rattle.room_rule.specs.declared.views.Shown.{Shown}
 use Rattle.room_gate.specs.Rows.{Goes, looked, glanced, seized, counted, admitted, turned_in}
 
-module _ {X V : Type 0} (M : Meaning X V) (m : ℕ) (a b : Seat (Unit {0}) (Shown V)) (n : ℕ)
+module _ {X S V : Type 0} (M : Meaning X S V) (m : ℕ) (a b : Seat (Option S) (Shown V)) (n : ℕ)
     (same : b.table_id ≡ a.table_id) (told : stepped_by M m a.me n b.me) where
   by_phase : (p : Phase) (mv : Move) → a.me.0.phase ≡ p → move m a.me.0.who p ≡ Some mv
       → move m a.me.0.who a.me.0.phase ≡ Some mv
   by_phase p mv at by = ap (λ (z : Phase). move m a.me.0.who z) at ∙ by
 
   -- a step after which nobody is inside that was not
-  quietly : (p : Phase) (mv : Move) → a.me.0.phase ≡ p → move m a.me.0.who p ≡ Some mv
+  pub quietly : (p : Phase) (mv : Move) → a.me.0.phase ≡ p → move m a.me.0.who p ≡ Some mv
       → ((all : List Opening) → Arrives M m (mv.next n) a.me.0.user a.me.0.seen all
       → all ≡ a.me.0.seen) → Goes a b (moved a.me.0 Step mv n a.me.0.seen)
   quietly p mv at by kept =
@@ -37,7 +37,7 @@ module _ {X V : Type 0} (M : Meaning X V) (m : ℕ) (a b : Seat (Unit {0}) (Show
   found p mv at by = let t = told mv (by_phase p mv at by) in
       subst (λ (z : Phase). Looks z a.me.0.known n) at t.2
 
-  one_of : (c : Bool) (p q : Phase) (all : List Opening)
+  pub one_of : (c : Bool) (p q : Phase) (all : List Opening)
       → (Arrives M m p a.me.0.user a.me.0.seen all → all ≡ a.me.0.seen)
       → (Arrives M m q a.me.0.user a.me.0.seen all → all ≡ a.me.0.seen)
       → Arrives M m (cond c p q) a.me.0.user a.me.0.seen all → all ≡ a.me.0.seen
@@ -89,9 +89,10 @@ module _ {X V : Type 0} (M : Meaning X V) (m : ℕ) (a b : Seat (Unit {0}) (Show
     pub comes_in : (f : ℕ) → first ≡ Some f
         → ComesIn m room ticket turn to f a.me.0.seen b.me.0.seen
     pub low : M.last a.me.0.user < turn
+    pub no_slot : M.keeps a.me.0.user ≡ None
 
   seen_is : (v : Shown V) → b.me ≡ (v, a.me.1) → v.seen ≡ b.me.0.seen
-  seen_is v e = ap (λ (z : Seated V). z.0.seen) (sym e)
+  seen_is v e = ap (λ (z : Seated S V). z.0.seen) (sym e)
 
   enters_by : (p : Phase) (mv : Move) (room ticket turn to : ℕ) (first : Option ℕ)
       → a.me.0.phase ≡ p → move m a.me.0.who p ≡ Some mv
@@ -106,6 +107,7 @@ module _ {X V : Type 0} (M : Meaning X V) (m : ℕ) (a b : Seat (Unit {0}) (Show
         goes = (same, t.1 ∙ (λ i. (moved a.me.0 Step mv n (e i), a.me.1)));
         comes_in = λ f q. subst (ComesIn m room ticket turn to f a.me.0.seen) e (arrives.0 f q);
         low = arrives.1;
+        no_slot = arrives.2;
       }
 
   pub turn_enters : (room ticket to : ℕ) (first : Option ℕ)
@@ -137,4 +139,5 @@ module _ {X V : Type 0} (M : Meaning X V) (m : ℕ) (a b : Seat (Unit {0}) (Show
         );
         comes_in = e.comes_in;
         low = e.low;
+        no_slot = e.no_slot;
       }

@@ -48,9 +48,17 @@ module _ {V : Type 0} where
     pub below : after.grant < after.ticket
     pub barred : IsBarred after.active after.found
 
-  -- the caller that waited is inside: it made one look at the active word, in its turn or the turn
-  -- before
-  pub record Enters (w : Waiter V) (i : Insider V) : Type 0 where
+  -- a caller that waits learned of openings
+  abbrev pub told : Waiter V → List Opening → Waiter V
+  told w openings = record w {
+    caller = record w.caller { seen = longer w.caller.seen openings };
+    known = openings ++ w.known;
+  }
+
+module _ {S V : Type 0} where
+  -- the caller that waited is inside, and keeps no slot: it made one look at the active word, in its
+  -- turn or the turn before
+  pub record Enters (w : Waiter V) (i : Insider S V) : Type 0 where
     pub caller : i.caller ≡ record w.caller {
       seen = i.caller.seen;
       first = i.caller.first;
@@ -58,21 +66,15 @@ module _ {V : Type 0} where
     }
     pub room : i.opening.room ≡ w.room
     pub ticket : i.ticket ≡ w.ticket
+    pub held : i.held ≡ None
     pub seen : StartsWith i.caller.seen w.caller.seen
     pub first :
         (i.caller.first ≡ first_look w.caller.first i.opening.turn)
         ⊎ (i.caller.first ≡ first_look w.caller.first (i.opening.turn - 1))
 
   -- the opening let the ticket in, at most as many turns after the first look as there are rooms
-  abbrev pub IsLetIn : ℕ → Insider V → Type 0
+  abbrev pub IsLetIn : ℕ → Insider S V → Type 0
   IsLetIn rooms i =
       (first : ℕ)
       × (i.caller.first ≡ Some first)
       × IsAdmitted rooms i.ticket first i.caller.seen i.opening
-
-  -- a caller that waits learned of openings
-  abbrev pub told : Waiter V → List Opening → Waiter V
-  told w openings = record w {
-    caller = record w.caller { seen = longer w.caller.seen openings };
-    known = openings ++ w.known;
-  }

@@ -11,7 +11,7 @@ pub record ArePasses {V : Type 0} (site : TableId) (limit : ℕ) (starts : ℕ �
   pub each : (i : ℕ) (p : Caller V) → IsAt passes i p → p ≡ newcomer site limit starts i
 
 -- zeros for the words of the rooms, and then the first so many user words
-pub record IsLaidOut {X V : Type 0} (rooms : ℕ) (M : Meaning X V) (x : X) (callers done : ℕ)
+pub record IsLaidOut {X S V : Type 0} (rooms : ℕ) (M : Meaning X S V) (x : X) (callers done : ℕ)
     (words : List ℕ) : Type 0 where
   pub user : List ℕ
   pub is : words ≡ replicate (1 + 3 * rooms) 0 ++ user

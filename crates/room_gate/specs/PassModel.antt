@@ -1,5 +1,5 @@
 -- A pass by its fields.
-use Rattle.std.specs.Prelude.{◌≡◌, ℕ, ◌≤◌, ◌^◌, []}
+use Rattle.std.specs.Prelude.{◌≡◌, ℕ, ◌≤◌, ◌^◌, Option, []}
 use Rattle.atomic_table.specs.declared.shared.Seat.{Seat}
 use Rattle.room_core.specs.declared.phases.Phase.TheVariants.{Out}
 use Rattle.room_rule.specs.declared.views.Role.TheVariants.{Pass}
@@ -8,7 +8,7 @@ use Rattle.room_gate.specs.Shows.{Caller}
 use Rattle.room_gate.specs.declared.passes.Pass.TheInside.{Inside}
 
 -- what a caller's seat shows, with what its token carries
-abbrev pub seen_of : {V : Type 0} → Seat (Unit {0}) (Shown V) → ℕ → ℕ → ℕ → Caller V
+abbrev pub seen_of : {S V : Type 0} → Seat (Option S) (Shown V) → ℕ → ℕ → ℕ → Caller V
 seen_of seat who draws limit = record {
   site = seat.table_id;
   who = who;
@@ -22,18 +22,18 @@ seen_of seat who draws limit = record {
 }
 
 -- the token carries what its seat shows
-pub record IsOf {V : Type 0} (seat : Seat (Unit {0}) (Shown V))
+pub record IsOf {S V : Type 0} (seat : Seat (Option S) (Shown V))
     (number drawn most : ℕ) : Type 0 where
   pub role : seat.me.0.role ≡ Pass
   pub who : seat.me.0.who ≡ number
   pub draws : seat.me.0.draws ≡ drawn
   pub limited : drawn ≤ most
   pub small : most ≤ 2 ^ 48
-  pub no_slot : seat.me.1 ≡ []
 
-abbrev pub caller_of : {X V : Type 0} → Inside X V → Caller V
+abbrev pub caller_of : {X S V : Type 0} → Inside X V S → Caller V
 caller_of p = seen_of p.seat p.who p.draws p.limit
 
-pub record IsOut {X V : Type 0} (p : Inside X V) : Type 0 where
+pub record IsOut {X S V : Type 0} (p : Inside X V S) : Type 0 where
   pub of : IsOf p.seat p.who p.draws p.limit
   pub phase : p.seat.me.0.phase ≡ Out
+  pub no_slot : p.seat.me.1 ≡ []

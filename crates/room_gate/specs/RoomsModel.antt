@@ -1,10 +1,10 @@
 -- Rooms by their fields.
-use Rattle.std.specs.Prelude.{◌≡◌, ℕ, ◌+◌, ◌*◌, ◌≤◌}
+use Rattle.std.specs.Prelude.{◌≡◌, ℕ, ◌+◌, ◌*◌, ◌^◌, ◌<◌, ◌≤◌}
 use Rattle.room_rule.specs.Use.{Meaning}
 use Rattle.room_gate.specs.Shows.{Site}
 use Rattle.room_gate.specs.declared.set_ups.Rooms.TheInside.{Inside}
 
-abbrev pub site_of : {X V : Type 0} → Inside X V → Site X
+abbrev pub site_of : {X S V : Type 0} → Inside X V S → Site X
 site_of r = record {
   site = r.table.shared.table_id;
   usage = r.plan.usage;
@@ -12,8 +12,9 @@ site_of r = record {
       r.plan.callers;
 }
 
-pub record IsSetUp (rooms : ℕ) {X V : Type 0} (M : Meaning X V) (r : Inside X V) : Type 0 where
+pub record IsSetUp (rooms : ℕ) {X S V : Type 0} (M : Meaning X S V) (r : Inside X V S) : Type 0 where
   pub key : r.table.shared.key ≡ r.plan
   pub words : r.table.shared.table_id.words ≡ 1 + 3 * rooms + M.words r.plan.usage
-  pub no_slots : r.table.shared.table_id.slots ≡ 0
+  pub slots : r.table.shared.table_id.slots ≡ M.slots r.plan.usage
   pub few : rooms ≤ 7
+  pub wide : r.table.shared.table_id.words < 2 ^ 60

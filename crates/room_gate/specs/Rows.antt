@@ -11,17 +11,18 @@ use Rattle.room_rule.specs.View.{moved}
 use Rattle.room_rule.specs.Told.{Seated}
 use Rattle.room_rule.specs.declared.views.Shown.{Shown}
 
-module _ {V : Type 0} where
+module _ {S V : Type 0} where
   -- the seat of the same table, with this view
-  abbrev pub Goes : Seat (Unit {0}) (Shown V) → Seat (Unit {0}) (Shown V) → Shown V → Type 0
+  abbrev pub Goes : Seat (Option S) (Shown V) → Seat (Option S) (Shown V) → Shown V → Type 0
   Goes before after v = (after.table_id ≡ before.table_id) × (after.me ≡ (v, before.me.1))
 
   -- a draw, of the room whose word was stepped on
-  abbrev pub drew : Step (Unit {0}) → Seated V → ℕ → Seated V → Type 0
+  abbrev pub drew : Step (Option S) → Seated S V → ℕ → Seated S V → Type 0
   drew st me n me' =
       let room = st.word - 1 in
       (n < 2 ^ 54) × (me' ≡ (moved me.0 (Draw room) (drawing_move room) n me.0.seen, me.1))
 
+module _ {V : Type 0} where
   -- the grant was loaded, and the ticket is let in or not
   abbrev pub looked : ℕ → ℕ → Option ℕ → ℕ → Shown V → Shown V
   looked room ticket first n v = record v {

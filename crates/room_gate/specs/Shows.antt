@@ -40,10 +40,19 @@ pub record Waiter (V : Type 0) : Type 0 where
   pub known : List Opening
 
 -- A caller that is inside, by an opening
-pub record Insider (V : Type 0) : Type 0 where
+pub record Insider (S V : Type 0) : Type 0 where
   pub caller : Caller V
   pub ticket : ℕ
   pub opening : Opening
+  -- what the slot holds that it keeps, if it keeps one
+  pub held : Option (Option S)
+
+-- The holder of a key: the opening that it ended, and the user words as they stand, but for touch
+-- words
+pub record KeyHolder (V : Type 0) : Type 0 where
+  pub caller : Caller V
+  pub opening : Opening
+  pub words : List ℕ
 
 -- A note of openings
 pub record Notice : Type 0 where

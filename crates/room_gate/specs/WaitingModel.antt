@@ -1,11 +1,11 @@
 -- A waiting caller by its fields.
-use Rattle.std.specs.Prelude.{◌≡◌, ℕ, ◌<◌}
+use Rattle.std.specs.Prelude.{◌≡◌, ℕ, ◌<◌, []}
 use Rattle.room_core.specs.declared.phases.Phase.TheVariants.{Looking}
 use Rattle.room_gate.specs.Shows.{Waiter}
 use Rattle.room_gate.specs.PassModel.{seen_of, IsOf}
 use Rattle.room_gate.specs.declared.waits.Waiting.TheInside.{Inside}
 
-abbrev pub waiter_of : {X V : Type 0} → Inside X V → Waiter V
+abbrev pub waiter_of : {X S V : Type 0} → Inside X V S → Waiter V
 waiter_of w = record {
   caller = seen_of w.seat w.who w.draws w.limit;
   room = w.room;
@@ -16,9 +16,10 @@ waiter_of w = record {
   known = w.seat.me.0.known;
 }
 
-pub record IsWaiting (rooms : ℕ) {X V : Type 0} (w : Inside X V) : Type 0 where
+pub record IsWaiting (rooms : ℕ) {X S V : Type 0} (w : Inside X V S) : Type 0 where
   pub of : IsOf w.seat w.who w.draws w.limit
   pub phase : w.seat.me.0.phase ≡ Looking w.room w.ticket w.first
+  pub no_slot : w.seat.me.1 ≡ []
   pub first : w.seat.me.0.first ≡ w.first
   pub grant : w.seat.me.0.grant ≡ w.grant
   pub active : w.seat.me.0.active ≡ w.active

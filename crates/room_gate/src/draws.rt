@@ -10,7 +10,6 @@ use crate::waits::Waiting;
 use room_rule::{RoomUse, wait_place};
 
 /// What a draw gives.
-#[derive(Drop)]
 pub enum Drawn<U: RoomUse> {
     /// The caller has a ticket.
     Waiting(Waiting<U>),

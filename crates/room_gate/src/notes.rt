@@ -13,7 +13,7 @@ use std::marker::Model;
 /// The openings that its maker had seen. It may be dropped.
 #[derive(Drop)]
 pub struct Note<U: RoomUse> {
-    pub(crate) seat: Seat<(), Shown<U::View>>,
+    pub(crate) seat: Seat<Option<U::Slot>, Shown<U::View>>,
 }
 
 impl<U: RoomUse> Model for Note<U> {

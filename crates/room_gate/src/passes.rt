@@ -8,7 +8,7 @@ use std::marker::Model;
 /// The right of one caller to draw. It may be dropped; its rooms can then not be closed.
 #[derive(Drop)]
 pub struct Pass<U: RoomUse> {
-    pub(crate) seat: Seat<(), Shown<U::View>>,
+    pub(crate) seat: Seat<Option<U::Slot>, Shown<U::View>>,
     pub(crate) who: u32,
     pub(crate) draws: u64,
     pub(crate) limit: u64,

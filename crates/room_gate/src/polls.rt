@@ -11,7 +11,6 @@ use crate::waits::Waiting;
 use room_rule::{RoomUse, code_of, pack, turn_of};
 
 /// What a poll gives.
-#[derive(Drop)]
 pub enum Polled<U: RoomUse> {
     /// The caller is inside.
     Entered(Inside<U>),
@@ -51,7 +50,7 @@ impl<U: RoomUse> Rooms<U> {
             active: _,
             found: _,
         } = waiting;
-        let grant = self.look(&mut seat, room, ticket, first);
+        let grant = self.load_grant(&mut seat, room, ticket, first);
         if ticket <= grant {
             let word = self.turn_in(&mut seat, room, ticket, first, grant);
             return Polled::Entered(Inside {

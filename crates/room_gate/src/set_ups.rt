@@ -13,7 +13,7 @@ use std::marker::Model;
 /// The rooms of one set-up, which its callers share by reference.
 #[derive(Drop)]
 pub struct Rooms<U: RoomUse> {
-    pub(crate) table: Table<(), Shown<U::View>, Plan<U>, RoomRule<U>, Global>,
+    pub(crate) table: Table<Option<U::Slot>, Shown<U::View>, Plan<U>, RoomRule<U>, Global>,
     pub(crate) plan: Plan<U>,
 }
 
@@ -45,7 +45,7 @@ fn lay_out<U: RoomUse>(alloc: Global, usage: &U, callers: u32) -> Result<Vec<u64
 }
 
 impl<U: RoomUse> Rooms<U> {
-    /// Makes the rooms and a pass for each of `callers` callers, 1 to 64, each with `draws` draws,
+    /// Makes the rooms, whose slots hold None, and a pass for each of `callers` callers, 1 to 64, each with `draws` draws,
     /// 1 to 2^48. It takes all the memory of the calls on them but `close`. The error is want of
     /// memory alone; the usage is dropped then.
     pub fn set_up(
@@ -62,7 +62,8 @@ impl<U: RoomUse> Rooms<U> {
     {
         let words = lay_out(alloc, &usage, callers)?;
         let plan = Plan { usage, callers };
-        let (table, maker) = Table::of_words(alloc, words.as_slice(), &plan)?;
+        let slots = plan.usage.slots();
+        let (table, maker) = Table::vacant(alloc, words.as_slice(), slots, &plan)?;
         let rooms = Rooms { table, plan };
         let passes = rooms.hire_all(alloc, maker, draws)?;
         Ok((rooms, passes))
@@ -79,7 +80,7 @@ impl<U: RoomUse> Rooms<U> {
     fn hire_all(
         &self,
         alloc: Global,
-        maker: Seat<(), Shown<U::View>>,
+        maker: Seat<Option<U::Slot>, Shown<U::View>>,
         limit: u64,
     ) -> Result<Vec<Pass<U>>, AllocError>
         requires own { maker.table_id ≡ self.now.site }

@@ -6,10 +6,9 @@ use atomic_table::Seat;
 use room_rule::{RoomUse, Shown};
 use std::marker::Model;
 
-/// A caller that is inside.
-#[derive(Drop)]
+/// A caller that is inside. It must be spent: it leaves by `leave`.
 pub struct Inside<U: RoomUse> {
-    pub(crate) seat: Seat<(), Shown<U::View>>,
+    pub(crate) seat: Seat<Option<U::Slot>, Shown<U::View>>,
     pub(crate) who: u32,
     pub(crate) draws: u64,
     pub(crate) limit: u64,
@@ -23,13 +22,13 @@ pub struct Inside<U: RoomUse> {
 impl<U: RoomUse> Model for Inside<U> {
     ghost use Rattle.room_gate.specs.Shows.{Insider};
 
-    ghost Value = { Insider U.View };
+    ghost Value = { Insider U.Slot U.View };
 
     ghost use Rattle.room_gate.specs.InsideModel.{insider_of, IsInside};
 
     ghost view = { insider_of };
 
-    ghost invariant = { IsInside U.ROOMS };
+    ghost invariant = { IsInside U.ROOMS U.meaning };
 }
 
 impl<U: RoomUse> Inside<U> {

@@ -5,10 +5,9 @@ use atomic_table::Seat;
 use room_rule::{RoomUse, Shown};
 use std::marker::Model;
 
-/// A caller that drew a ticket and is not inside yet.
-#[derive(Drop)]
+/// A caller that drew a ticket and is not inside yet. It must be spent: it enters by `poll`.
 pub struct Waiting<U: RoomUse> {
-    pub(crate) seat: Seat<(), Shown<U::View>>,
+    pub(crate) seat: Seat<Option<U::Slot>, Shown<U::View>>,
     pub(crate) who: u32,
     pub(crate) draws: u64,
     pub(crate) limit: u64,

@@ -5,8 +5,8 @@ use Rattle.room_gate.specs.Shows.{Waiter, Notice}
 use Rattle.room_gate.specs.Entering.{told}
 use Rattle.room_gate.proofs.tests.enters_as_told.Goals as goal
 
-pub returns : goal.returns
-returns g c =
+pub unreachable-requires : goal.unreachable-requires
+unreachable-requires g c =
     let seen = c.args.inside.now.caller.seen in let covered = c.requires.covered in
     let knows : IsCovered
     (told c.args.waiting seen).known c.args.waiting.room c.args.waiting.ticket = (
@@ -19,5 +19,5 @@ returns g c =
     ) in
     let now : c.learn.new.waiting ≡ told c.args.waiting seen = c.learn.ensures
     ∙ ap (λ (n : Notice). told c.args.waiting n.openings) c.note-note.ensures.note in
-    absurd (c.in-NotYet.ensures.as_told
-    (subst (λ (w : Waiter _). IsCovered w.known w.room w.ticket) (sym now) knows))
+    c.in-NotYet.ensures.as_told
+    (subst (λ (w : Waiter _). IsCovered w.known w.room w.ticket) (sym now) knows)

@@ -3,6 +3,7 @@ use Rattle.room_core.specs.declared.acts.Act.TheVariants.{Step}
 use Rattle.room_rule.specs.Told.{stepped_by}
 use Rattle.room_rule.proofs.Events.{allows_event}
 use Rattle.room_rule.proofs.Entering.{admits}
+use Rattle.room_gate.proofs.Making.{carries_none}
 use Rattle.room_gate.proofs.Stepping.{admit_enters}
 use Rattle.room_gate.proofs.set_ups.Rooms.admit.Goals as goal
 
@@ -26,4 +27,10 @@ returns g c =
     let e = admit_enters g.U.RoomUse.meaning g.U.RoomUse.ROOMS c.args.seat.now c.store.new.seat
     c.args.to c.store.ensures.0 c.store.ensures.2 c.args.room c.args.ticket c.args.turn
     c.args.to (Some c.args.first) c.requires.ticket c.requires.phase in
-    record { goes = e.goes; comes_in = e.comes_in c.args.first refl; in_a_new_turn = e.low }
+    record {
+      goes = e.goes;
+      comes_in = e.comes_in c.args.first refl;
+      in_a_new_turn = e.low;
+      no_slot = carries_none (g.U.RoomUse.meaning.keeps c.args.seat.now.me.0.user)
+          c.args.seat.now.me.1 e.no_slot c.requires.no_slot;
+    }

@@ -1,4 +1,4 @@
-use Rattle.std.proofs.Common.{◌≡◌, ◌∙◌, ◌+◌, ap, sym, arith}
+use Rattle.std.proofs.Common.{◌∙◌, ◌+◌, ap, sym, arith}
 use Rattle.room_core.specs.declared.acts.Act.TheVariants.{Step}
 use Rattle.room_rule.specs.Told.{stepped_by}
 use Rattle.room_rule.proofs.Events.{allows_event}

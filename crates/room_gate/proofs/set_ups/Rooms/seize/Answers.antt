@@ -1,4 +1,4 @@
-use Rattle.std.proofs.Common.{◌≡◌, ◌∙◌, ◌+◌, Some, refl, ap, sym, arith, eqb}
+use Rattle.std.proofs.Common.{◌≡◌, ◌∙◌, ℕ, ◌+◌, Some, refl, ap, sym, subst, arith, eqb}
 use prog.Atomic.{either}
 use Rattle.room_core.specs.declared.acts.Act.TheVariants.{Step}
 use Rattle.room_core.specs.Active.{pack, turn_of}
@@ -15,7 +15,7 @@ compare_exchange-requires g c =
     let slots = table.table_id.slots in let room = c.args.room in
     let idle = c.args.idle in let first = Some c.args.first in let new = c.pack-new.result in
     let new_is : new ≡ pack (turn_of idle + 1) (room + 1) =
-    c.pack-new.ensures ∙ ap (λ turn. pack (turn + 1) (room + 1)) c.turn_of.ensures in (
+    subst (λ (turn : ℕ). new ≡ pack (turn + 1) (room + 1)) c.turn_of.ensures c.pack-new.ensures in (
       c.requires.own ∙ ap (λ s. s.site) (sym c.self.view_is),
       (let wide = c.self.invariant.words in omega arith),
       allows_event M m table.key slots seat.id seat.me 0 0 refl

@@ -1,8 +1,9 @@
-use Rattle.std.proofs.Common.{◌≡◌, ◌∙◌, refl, ap, sym, arith}
+use Rattle.std.proofs.Common.{◌∙◌, refl, ap, sym, arith}
 use Rattle.room_core.specs.declared.acts.Act.TheVariants.{Step}
 use Rattle.room_rule.specs.Told.{stepped_by}
 use Rattle.room_rule.proofs.Events.{allows_event}
 use Rattle.room_rule.proofs.Entering.{turns}
+use Rattle.room_gate.proofs.Making.{carries_none}
 use Rattle.room_gate.proofs.Stepping.{turn_enters}
 use Rattle.room_gate.proofs.set_ups.Rooms.turn_in.Goals as goal
 
@@ -24,4 +25,10 @@ returns g c =
     let e = turn_enters g.U.RoomUse.meaning g.U.RoomUse.ROOMS c.args.seat.now c.load.new.seat
     c.load.result c.load.ensures.0 c.load.ensures.2 c.args.room c.args.ticket c.args.to
     c.args.first c.requires.phase in
-    record { goes = e.goes; comes_in = e.comes_in; in_a_new_turn = e.low }
+    record {
+      goes = e.goes;
+      comes_in = e.comes_in;
+      in_a_new_turn = e.low;
+      no_slot = carries_none (g.U.RoomUse.meaning.keeps c.args.seat.now.me.0.user)
+          c.args.seat.now.me.1 e.no_slot c.requires.no_slot;
+    }
