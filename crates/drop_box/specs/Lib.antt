@@ -1,0 +1,11 @@
+pub mod Box
+pub mod Views
+pub mod Made
+pub mod Keeping
+pub mod Changing
+pub mod Steps
+pub mod Laws
+pub mod Plays
+pub mod BoxModel
+pub mod Visits
+pub mod Closing
