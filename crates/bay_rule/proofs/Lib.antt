@@ -1,0 +1,13 @@
+pub mod Adding
+pub mod CanPush
+pub mod CanPop
+pub mod CanEnqueue
+pub mod CanDequeue
+pub mod CanCells
+pub mod CanExit
+pub mod CanShare
+pub mod Answering
+pub mod OneHistory
+pub mod Resting
+pub mod Adds
+pub mod Rested

@@ -1,0 +1,17 @@
+pub mod Words
+pub mod Newest
+pub mod Views
+pub mod Ends
+pub mod Shows
+pub mod Leaving
+pub mod Calls
+pub mod ExitCode
+pub mod Live
+pub mod Bay
+pub mod Told
+pub mod Answered
+pub mod Adds
+pub mod HasHistory
+pub mod AtRest
+pub mod Keeping
+pub mod Laws
