@@ -25,7 +25,7 @@ tested true d = inl (d.0 refl)
 tested false d = inr (λ p. false≢true (d.1 p))
 
 -- a list of bytes is another one, or not
-same_or_not : (xs ys : List ℕ) → (xs ≡ ys) ⊎ (xs ≡ ys → ⊥)
+pub same_or_not : (xs ys : List ℕ) → (xs ≡ ys) ⊎ (xs ≡ ys → ⊥)
 same_or_not xs ys = tested (bytes_eq xs ys) (bytes_eq-Decides xs ys)
 
 number_or_not : (bytes : List ℕ) → ((n : ℕ) × IsNumber bytes n) ⊎ ((n : ℕ) → IsNumber bytes n → ⊥)
@@ -46,7 +46,7 @@ word_or_not word bytes =
       | inr other ↦ inr (λ rest e. other (ap (take (length word)) e ∙ take_at word rest (length word) refl))
     ]
 
-after_or_not : (word bytes : List ℕ) → ((n : ℕ) × IsNumberAfter word bytes n) ⊎ ((n : ℕ) → IsNumberAfter word bytes n → ⊥)
+pub after_or_not : (word bytes : List ℕ) → ((n : ℕ) × IsNumberAfter word bytes n) ⊎ ((n : ℕ) → IsNumberAfter word bytes n → ⊥)
 after_or_not word bytes =
     elim (word_or_not word bytes) [
       | inl begins ↦ elim (number_or_not begins.0) [
@@ -103,7 +103,7 @@ act_or_not line =
     ]
 
 -- a number after a word, up to a limit
-limited_or_not : (word line : List ℕ) (most : ℕ) → most < 2 ^ 64 → ((n : ℕ) × ((1 ≤ n) × (n ≤ most)) × (line ≡ word ++ decimal n)) ⊎ ((n : ℕ) → ((1 ≤ n) × (n ≤ most)) × (line ≡ word ++ decimal n) → ⊥)
+pub limited_or_not : (word line : List ℕ) (most : ℕ) → most < 2 ^ 64 → ((n : ℕ) × ((1 ≤ n) × (n ≤ most)) × (line ≡ word ++ decimal n)) ⊎ ((n : ℕ) → ((1 ≤ n) × (n ≤ most)) × (line ≡ word ++ decimal n) → ⊥)
 limited_or_not word line most small =
     elim (after_or_not word line) [
       | inl found ↦ (

@@ -7,3 +7,8 @@ pub mod Heads
 pub mod Plans
 pub mod Texts
 pub mod Judged
+pub mod Calls
+pub mod Scripts
+pub mod TrialHeads
+pub mod Outlines
+pub mod TrialsJudged

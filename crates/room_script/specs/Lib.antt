@@ -3,3 +3,4 @@ pub mod Lines
 pub mod Numbers
 pub mod Prints
 pub mod Schedules
+pub mod Trials

@@ -1,4 +1,4 @@
-ghost use Rattle.std.specs.Prelude.{◌==◌, [], ◌∷◌, ◌++◌, IfOk};
+ghost use Rattle.std.specs.Prelude.{◌≡◌, ◌==◌, [], ◌∷◌, ◌++◌, IfOk, All, map, slice_index_or};
 ghost use Rattle.std.specs.List.{slice_split};
 ghost use Rattle.room_script.specs.Lines.{lines_of, parts_of, bytes_at, IsRange, StandAt};
 
@@ -39,6 +39,17 @@ pub fn parts(alloc: Global, text: &[u8], line: Piece) -> Result<Vec<Piece>, Allo
     let (mut pieces, rest) = cut(alloc, text, line, b' ')?;
     pieces.push(rest)?;
     Ok(pieces)
+}
+
+/// The bytes of the line with this number, counted from 0. A line that is missing counts as empty.
+pub fn line_at<'a>(text: &'a [u8], lines: &[Piece], at: usize) -> &'a [u8]
+    requires { All (IsRange text.now) lines.now }
+    ensures { result.now ≡ slice_index_or (map (bytes_at text.now) lines.now) at [] }
+{
+    match lines.get(at) {
+        Some(line) => &text[line.from..line.to],
+        None => &[],
+    }
 }
 
 // The pieces of `whole` that end at its separators, and the rest after them.

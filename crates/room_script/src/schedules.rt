@@ -1,10 +1,10 @@
-ghost use Rattle.std.specs.Prelude.{◌≡◌, ◌⊎◌, ℕ, [], Err, IfOk, IfErr, MatchResult, IsErrAnd, All, map, take, slice_index_or};
+ghost use Rattle.std.specs.Prelude.{◌≡◌, ◌⊎◌, ℕ, [], Err, IfOk, IfErr, MatchResult, IsErrAnd, All, map, take};
 ghost use Rattle.room_script.specs.Breaks.{BreaksAt};
 ghost use Rattle.room_script.specs.Lines.{lines_of, bytes_at, IsRange};
 ghost use Rattle.room_script.specs.Schedules.{Plan, plan_of, Spells, IsSchedule};
 
 use crate::faults::ScriptFault;
-use crate::pieces::{Piece, lines};
+use crate::pieces::{Piece, line_at, lines};
 use crate::schedule_lines::{is_title, read_act, read_callers, read_rooms};
 use room_core::Act;
 use std::alloc::Global;
@@ -21,17 +21,6 @@ pub struct Schedule {
 }
 
 const HEAD_LINES: usize = 3;
-
-// The bytes of the line with this number, counted from 0. A line that is missing counts as empty.
-fn line_at<'a>(text: &'a [u8], lines: &[Piece], at: usize) -> &'a [u8]
-    requires { All (IsRange text.now) lines.now }
-    ensures { result.now ≡ slice_index_or (map (bytes_at text.now) lines.now) at [] }
-{
-    match lines.get(at) {
-        Some(line) => &text[line.from..line.to],
-        None => &[],
-    }
-}
 
 // The numbers of rooms and callers, in the first three lines.
 fn read_head(text: &[u8], lines: &[Piece]) -> Result<(u8, u32), ScriptFault>

@@ -1,4 +1,5 @@
-use crate::{Piece, ScriptFault, lines, number, parts, print_run, read_schedule};
+use crate::{Line, Piece, ScriptFault, lines, number, parts, print_run, read_schedule, read_trial};
+use bay_core::Layout;
 use room_core::{Act, Refused, RunFault, run};
 use std::alloc::Global;
 use std::test::Fail;
@@ -152,5 +153,96 @@ fn parts_end_at_spaces(rt: HostRuntime) -> Result<(), Fail> {
     assert_eq!(rt; three.as_slice(), pieces.as_slice());
     let none = parts(rt.alloc(), b"x\n\n", Piece { from: 2, to: 2 })?;
     assert_eq!(rt; none.as_slice(), [Piece { from: 2, to: 2 }].as_slice());
+    Ok(())
+}
+
+// The line that the reader of trials refuses, or 0.
+fn refused_trial_line(alloc: Global, text: &[u8]) -> Result<u64, Fail> {
+    match read_trial(alloc, text) {
+        Err(ScriptFault::Line(line)) => Ok(line),
+        Err(ScriptFault::Memory) => Err("memory".into()),
+        Ok(_) => Ok(0),
+    }
+}
+
+#[test]
+fn a_trial_has_a_script_for_each_caller(rt: HostRuntime) -> Result<(), Fail> {
+    let text = b"trial 1\nlayout split\nblocks 2\ndraws 10\ncaller\npop\npush 5\ncaller\ncaller\n\
+        enq 18446744073709551615\ndeq";
+    let trial = read_trial(rt.alloc(), text)?;
+    assert_eq!(rt; trial.layout, Layout::Split);
+    assert_eq!(rt; (trial.blocks, trial.draws), (2, 10));
+    assert_eq!(rt; trial.scripts.len(), 3);
+    assert_eq!(rt;
+        trial.scripts[0].as_slice(),
+        [Line::Pop, Line::Push(5)].as_slice()
+    );
+    assert_eq!(rt; trial.scripts[1].len(), 0);
+    assert_eq!(rt;
+        trial.scripts[2].as_slice(),
+        [Line::Enq(18446744073709551615), Line::Deq].as_slice()
+    );
+    Ok(())
+}
+
+#[test]
+fn the_first_line_that_breaks_the_rules_of_trials_is_named(rt: HostRuntime) -> Result<(), Fail> {
+    let rows = [
+        ("", 1),
+        ("trial 2\n", 1),
+        ("trial 1\n", 2),
+        ("trial 1\nlayout torn\nblocks 0\n", 2),
+        ("trial 1\nlayout paged\nblocks 2\ndraws 1\ncaller\n", 2),
+        ("trial 1\nlayout split\nblocks 0\n", 3),
+        ("trial 1\nlayout split\nblocks 16385\ndraws 1\ncaller\n", 3),
+        ("trial 1\nlayout split\nblocks 16384\ndraws 0\n", 4),
+        (
+            "trial 1\nlayout split\nblocks 1\ndraws 281474976710657\ncaller\n",
+            4,
+        ),
+        (
+            "trial 1\nlayout split\nblocks 1\ndraws 281474976710656\n",
+            5,
+        ),
+        ("trial 1\nlayout split\nblocks 1\ndraws 1\npop\n", 5),
+        ("trial 1\nlayout split\nblocks 1\ndraws 1\ncaller", 0),
+        (
+            "trial 1\nlayout split\nblocks 1\ndraws 1\ncaller\npop\npop 1\n",
+            7,
+        ),
+        (
+            "trial 1\nlayout split\nblocks 1\ndraws 1\ncaller\npush\n",
+            6,
+        ),
+        (
+            "trial 1\nlayout split\nblocks 1\ndraws 1\ncaller\npush 05\n",
+            6,
+        ),
+        ("trial 1\nlayout split\nblocks 1\ndraws 1\ncaller\n\n", 6),
+        (
+            "trial 1\nlayout split\nblocks 1\ndraws 1\ncaller\nenq 1\ndeq \n",
+            7,
+        ),
+    ];
+    for (text, line) in rows {
+        assert_eq!(rt;
+            refused_trial_line(rt.alloc(), text.as_bytes())?,
+            line,
+            "{text}"
+        );
+    }
+    Ok(())
+}
+
+#[test]
+fn a_trial_has_64_callers_at_most(rt: HostRuntime) -> Result<(), Fail> {
+    let mut text = Vec::new(rt.alloc());
+    text.extend_from_slice(b"trial 1\nlayout split\nblocks 1\ndraws 1\n")?;
+    for _ in 0..64 {
+        text.extend_from_slice(b"caller\npop\n")?;
+    }
+    assert_eq!(rt; refused_trial_line(rt.alloc(), &text)?, 0);
+    text.extend_from_slice(b"caller\n")?;
+    assert_eq!(rt; refused_trial_line(rt.alloc(), &text)?, 133);
     Ok(())
 }

@@ -1,0 +1,4 @@
+pub mod Chains
+pub mod Twins
+pub mod Callers
+pub mod Disorders

@@ -1,0 +1,39 @@
+-- The entries of several callers as one list.
+use Rattle.std.specs.Prelude.{◌≡◌, ◌==◌, ◌&&◌, ℕ, ◌<◌, ◌≤◌, ◌⊎◌, Bool, List, [], length, slice_index_or, All, count_by}
+use Rattle.std.specs.List.{flat_map, filter, AllAdjacentBelow}
+use Rattle.bay_core.specs.declared.calls.Entry.{Entry}
+
+-- the entries of all lists, list by list
+abbrev pub given : List (List Entry) → List Entry
+given lists = flat_map (λ list. list) lists
+
+-- one turn and rank are at most another's
+abbrev pub AtMost : ℕ → ℕ → ℕ → ℕ → Type 0
+AtMost turn rank t r = (turn < t) ⊎ ((turn ≡ t) × (rank ≤ r))
+
+-- the turn and the rank of no entry are less than those of the one before it
+abbrev pub IsRising : List Entry → Type 0
+IsRising es = AllAdjacentBelow (λ d e. AtMost d.turn d.rank e.turn e.rank) es (length es)
+
+-- the entry has this turn and this rank
+abbrev pub stands_at : ℕ → ℕ → Entry → Bool
+stands_at turn rank e = e.turn == turn && e.rank == rank
+
+-- two of the entries, or more, have this turn and this rank
+abbrev pub AreTwins : List Entry → ℕ → ℕ → Type 0
+AreTwins es turn rank = 2 ≤ count_by (stands_at turn rank) es
+
+-- two of the entries have this turn and this rank, and no two have lesser ones
+pub record IsLeastTwin (es : List Entry) (turn rank : ℕ) : Type 0 where
+  pub twins : AreTwins es turn rank
+  pub least : (t r : ℕ) → AreTwins es t r → AtMost turn rank t r
+
+-- the entries of one caller
+abbrev pub of_caller : ℕ → List Entry → List Entry
+of_caller who es = filter (λ e. e.who == who) es
+
+-- the lists are those of callers 0, 1 and so on: each has the entries among es of its caller, and
+-- es has those of no other
+pub record AreOwn (lists : List (List Entry)) (es : List Entry) : Type 0 where
+  pub own : (who : ℕ) → who < length lists → slice_index_or lists who [] ≡ of_caller who es
+  pub callers : All (λ e. e.who < length lists) es

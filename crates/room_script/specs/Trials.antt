@@ -1,0 +1,104 @@
+-- The text of a trial.
+use Rattle.std.specs.Prelude.{◌≡◌, ◌≢◌, ℕ, ◌+◌, ◌≤◌, ◌<◌, ◌^◌, ◌⊎◌, List, [], ◌∷◌, ◌++◌, length, map, All, codes, decimal}
+use Rattle.std.specs.List.{flat_map}
+use Rattle.bay_core.specs.declared.calls.Layout.{Layout}
+use Rattle.bay_core.specs.declared.calls.Layout.TheVariants.{Split}
+use Rattle.room_script.specs.declared.trials.Line.{Line}
+use Rattle.room_script.specs.declared.trials.Line.TheVariants.{Push, Pop, Enq, Deq}
+use Rattle.room_script.specs.declared.trials.Trial.{Trial}
+
+-- what a trial says: how the bay is laid out, its number of blocks, the draws that each caller may
+-- make, and each caller's script
+pub record Outline : Type 0 where
+  pub layout : Layout
+  pub blocks : ℕ
+  pub draws : ℕ
+  pub scripts : List (List Line)
+
+-- what a trial in memory says
+abbrev pub outline_of : Trial → Outline
+outline_of t =
+    record { layout = t.layout; blocks = t.blocks; draws = t.draws; scripts = map (λ script. script.items) t.scripts.items }
+
+-- the line of the layout
+abbrev pub layout_line : Layout → List ℕ
+layout_line Split = codes "layout split"
+
+-- the line of the number of blocks
+abbrev pub blocks_line : ℕ → List ℕ
+blocks_line blocks = codes "blocks " ++ decimal blocks
+
+-- the line of the number of draws
+abbrev pub draws_line : ℕ → List ℕ
+draws_line draws = codes "draws " ++ decimal draws
+
+-- the line that begins a caller's script
+abbrev pub caller_line : List ℕ
+caller_line = codes "caller"
+
+-- the line of a call
+abbrev pub call_line : Line → List ℕ
+call_line (Push item) = codes "push " ++ decimal item
+call_line Pop = codes "pop"
+call_line (Enq item) = codes "enq " ++ decimal item
+call_line Deq = codes "deq"
+
+-- the lines of a script
+abbrev pub script_lines : List Line → List (List ℕ)
+script_lines script = caller_line ∷ map call_line script
+
+-- the lines of a trial
+abbrev pub outline_lines : Outline → List (List ℕ)
+outline_lines o =
+    codes "trial 1" ∷ layout_line o.layout ∷ blocks_line o.blocks ∷ draws_line o.draws
+    ∷ flat_map script_lines o.scripts
+
+-- from 1 to 16384 blocks
+abbrev pub IsBlocks : ℕ → Type 0
+IsBlocks blocks = (1 ≤ blocks) × (blocks ≤ 16384)
+
+-- from 1 to 2^48 draws
+abbrev pub IsDraws : ℕ → Type 0
+IsDraws draws = (1 ≤ draws) × (draws ≤ 2 ^ 48)
+
+-- the item of a call fits 64 bits
+abbrev pub IsCall : Line → Type 0
+IsCall (Push item) = item < 2 ^ 64
+IsCall Pop = Unit {0}
+IsCall (Enq item) = item < 2 ^ 64
+IsCall Deq = Unit {0}
+
+-- from 1 to 64 callers, each with calls whose items fit
+pub record AreScripts (scripts : List (List Line)) : Type 0 where
+  pub some : 1 ≤ length scripts
+  pub few : length scripts ≤ 64
+  pub calls : All (All IsCall) scripts
+
+-- the line may follow scripts of which the last is `script`, and they are then these: it begins a
+-- further one, or it is the next call of the last one
+abbrev pub IsNext : List (List Line) → List Line → List ℕ → List (List Line) → List Line → Type 0
+IsNext scripts script line scripts' script' =
+    ((line ≡ caller_line) × (length scripts + 1 < 64) × (scripts' ≡ scripts ++ script ∷ []) × (script' ≡ []))
+    ⊎ ((a : Line) × IsCall a × (line ≡ call_line a) × (scripts' ≡ scripts) × (script' ≡ script ++ a ∷ []))
+
+-- no line like this one may follow those scripts and one more: it begins one too many, or it is
+-- neither a beginning nor a call
+abbrev pub IsWrong : List (List Line) → List ℕ → Type 0
+IsWrong scripts line =
+    ((line ≡ caller_line) × (64 ≤ length scripts + 1))
+    ⊎ ((line ≢ caller_line) × ((a : Line) → IsCall a → line ≢ call_line a))
+
+-- what is said is within the limits
+pub record IsWithin (o : Outline) : Type 0 where
+  pub blocks : IsBlocks o.blocks
+  pub draws : IsDraws o.draws
+  pub scripts : AreScripts o.scripts
+
+-- the lines are those of a trial that says this, within the limits
+pub record SpellsTrial (lines : List (List ℕ)) (o : Outline) : Type 0 where
+  pub within : IsWithin o
+  pub spelled : lines ≡ outline_lines o
+
+-- the lines are those of some trial
+abbrev pub IsTrial : List (List ℕ) → Type 0
+IsTrial lines = (o : Outline) × SpellsTrial lines o

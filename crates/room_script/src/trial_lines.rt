@@ -1,0 +1,78 @@
+ghost use Rattle.std.specs.Prelude.{◌≡◌, ℕ, ◌↔◌, Some, IsTrue, codes};
+ghost use Rattle.bay_core.specs.declared.calls.Layout.{Layout};
+ghost use Rattle.room_script.specs.declared.trials.Line.{Line};
+ghost use Rattle.room_script.specs.Trials.{IsBlocks, IsDraws, IsCall, layout_line, blocks_line, draws_line, caller_line, call_line};
+
+use crate::numbers::number_after;
+use crate::trials::Line;
+use bay_core::Layout;
+
+const MOST_BLOCKS: u64 = 16_384;
+
+const MOST_DRAWS: u64 = 281_474_976_710_656;
+
+/// Whether the line is the first one of a trial.
+pub fn is_trial_title(line: &[u8]) -> bool
+    ensures { IsTrue result ↔ (line.now ≡ codes "trial 1") }
+{
+    line == b"trial 1".as_slice()
+}
+
+/// The layout, where the line gives one.
+pub fn read_layout(line: &[u8]) -> Option<Layout>
+    ensures { (l : Layout) → (result ≡ Some l) ↔ (line.now ≡ layout_line l) }
+{
+    if line == b"layout split".as_slice() {
+        Some(Layout::Split)
+    } else {
+        None
+    }
+}
+
+/// The number of blocks, where the line gives one from 1 to 16384.
+pub fn read_blocks(line: &[u8]) -> Option<u32>
+    ensures { (n : ℕ) → (result ≡ Some n) ↔ (IsBlocks n × (line.now ≡ blocks_line n)) }
+{
+    let blocks = number_after(b"blocks ", line)?;
+    if blocks == 0 || blocks > MOST_BLOCKS {
+        return None;
+    }
+    Some(blocks as u32)
+}
+
+/// The number of draws, where the line gives one from 1 to 2^48.
+pub fn read_draws(line: &[u8]) -> Option<u64>
+    ensures { (n : ℕ) → (result ≡ Some n) ↔ (IsDraws n × (line.now ≡ draws_line n)) }
+{
+    let draws = number_after(b"draws ", line)?;
+    if draws == 0 || draws > MOST_DRAWS {
+        return None;
+    }
+    Some(draws)
+}
+
+/// Whether the line begins a caller's script.
+pub fn is_caller(line: &[u8]) -> bool
+    ensures { IsTrue result ↔ (line.now ≡ caller_line) }
+{
+    line == b"caller".as_slice()
+}
+
+/// The call, where the line gives one.
+pub fn read_call(line: &[u8]) -> Option<Line>
+    ensures { (a : Line) → (result ≡ Some a) ↔ (IsCall a × (line.now ≡ call_line a)) }
+{
+    if let Some(item) = number_after(b"push ", line) {
+        return Some(Line::Push(item));
+    }
+    if let Some(item) = number_after(b"enq ", line) {
+        return Some(Line::Enq(item));
+    }
+    if line == b"pop".as_slice() {
+        return Some(Line::Pop);
+    }
+    if line == b"deq".as_slice() {
+        return Some(Line::Deq);
+    }
+    None
+}
