@@ -1,5 +1,5 @@
 -- That the steps which add to a word may be made: the sum fits. The others need no proof of ours.
-use Rattle.std.proofs.Common.{◌≡◌, ℕ, ◌+◌, ◌*◌, ◌^◌, ◌<◌, ◌≤◌, inl, Option, length, refl, arith}
+use Rattle.std.proofs.Common.{ℕ, ◌+◌, ◌^◌, ◌<◌, inl, Option, refl, arith}
 use Rattle.std.specs.Prelude.{◌==◌, slice_index}
 use Rattle.std.proofs.lemmas.List.Sums.{count_by-le-length}
 use Rattle.room_rule.specs.Use.{Meaning}

@@ -1,12 +1,10 @@
 -- From the laws to the words that are left.
-use Rattle.std.proofs.Common.{◌≡◌, ℕ, ◌+◌, suc, List, [], ◌∷◌, length, get_or, map, refl, arith, ap, ◌∙◌}
-use Rattle.std.specs.Prelude.{Option}
+use Rattle.std.proofs.Common.{◌≡◌, ℕ, Option, List, [], ◌∷◌, length, get_or, map, refl, arith, ◌∙◌}
 use Rattle.atomic_table.proofs.Lists.{at_map}
-use Rattle.room_rule.specs.Use.{IsAt}
 use Rattle.room_gate.specs.Shows.{Caller}
 use Rattle.room_gate.specs.Closing as gate
 use Rattle.drop_box.specs.declared.uses.Visit.{Visit}
-use Rattle.drop_box.specs.Box.{rings_of, box_meaning}
+use Rattle.drop_box.specs.Box.{box_meaning}
 use Rattle.drop_box.specs.Closing.{IsLeft}
 
 two_words : (ws : List ℕ) → length ws ≡ 2 → ws ≡ get_or ws 0 0 ∷ get_or ws 1 0 ∷ []

@@ -1,5 +1,5 @@
 -- What holds of a drop box after one caller's step.
-use Rattle.std.proofs.Common.{◌≡◌, ℕ, ◌+◌, ◌^◌, ◌≤◌, Bool, true, cond, List, length, set, ap, arith, length-set}
+use Rattle.std.proofs.Common.{◌≡◌, ℕ, ◌+◌, ◌^◌, ◌≤◌, Bool, true, cond, List, set, ap, arith, length-set}
 use Rattle.std.specs.Prelude.{slice_index, ◌==◌}
 use Rattle.room_core.specs.Gate.{Gate, Shut, Held, Keyed}
 use Rattle.room_rule.specs.Use.{IsAt, Slots, Content}

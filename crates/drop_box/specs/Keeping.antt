@@ -1,5 +1,5 @@
 -- Who keeps the slot after a step.
-use Rattle.std.proofs.Common.{◌≡◌, ◌≢◌, ℕ, ◌<◌, ⊎_elim, inl, inr, ◌⊎◌, Bool, true, false, Option, Some, None, List, length, set, sym, refl, ap, subst, arith, ◌∙◌, cond, ne_eqb}
+use Rattle.std.proofs.Common.{◌≡◌, ◌≢◌, ℕ, ⊎_elim, inl, inr, ◌⊎◌, Bool, true, false, Option, Some, List, length, set, sym, refl, ap, subst, arith, ◌∙◌, cond, ne_eqb}
 use Rattle.std.proofs.lemmas.Bool.{cases_eq}
 use mathlib.Core.Option.{some, none, some-injective, some-ne-none}
 use lib.ListN.{get_elem?}

@@ -1,5 +1,5 @@
 -- The laws of a drop box, in their order.
-use Rattle.std.proofs.Common.{◌≡◌, ℕ, ◌+◌, ◌*◌, ◌<◌, ◌≤◌, ◌↔◌, ⊎_elim, inl, inr, Bool, true, false, cond, eqb, Option, Some, None, List, length, sym, refl, ap, subst, arith, ◌∙◌, eq-eqb, ne_eqb}
+use Rattle.std.proofs.Common.{◌≡◌, ℕ, ◌≤◌, ◌↔◌, ⊎_elim, inl, inr, true, eqb, None, sym, refl, ap, subst, arith, ◌∙◌, eq-eqb}
 use Rattle.std.specs.Prelude.{◌==◌}
 use Rattle.std.proofs.lemmas.Bool.{eqb-true, cond_both}
 use mathlib.Core.Option.{some, none, some-injective, some-ne-none}
@@ -7,7 +7,7 @@ use Rattle.room_core.specs.Gate.{Gate, Held, Keyed}
 use Rattle.room_rule.specs.Use.{IsAt, Meaning, UserStep, user_step, written, rewritten}
 use Rattle.room_rule.specs.Laws as law
 use Rattle.drop_box.specs.declared.uses.Visit.{Visit}
-use Rattle.drop_box.specs.Box.{turnstile, bell, new_visit, slot_if, rings_of, Boxed, GoesThrough, BringsHome, box_meaning}
+use Rattle.drop_box.specs.Box.{turnstile, bell, new_visit, slot_if, Boxed, GoesThrough, BringsHome, box_meaning}
 use Rattle.drop_box.specs.Views.{caller_there, one_view, sum_within}
 use Rattle.drop_box.specs.Made.{made}
 use Rattle.drop_box.specs.Keeping.{not_both, not_leaver, kept_slot, moves_one, stays}

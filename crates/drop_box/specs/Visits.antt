@@ -1,5 +1,5 @@
 -- What a visit to the box changes, and what its answer says.
-use Rattle.std.specs.Prelude.{◌≡◌, ℕ, ◌+◌, ◌<◌, false, Option, Some, None}
+use Rattle.std.specs.Prelude.{◌≡◌, ◌+◌, ◌<◌, false, Some, None}
 use Rattle.room_gate.specs.Shows.{Caller, Insider}
 use Rattle.drop_box.specs.declared.uses.Visit.{Visit}
 use Rattle.drop_box.specs.declared.puts.Put.{Put}
