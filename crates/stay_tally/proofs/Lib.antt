@@ -1,0 +1,4 @@
+pub mod Can
+pub mod Counted
+pub mod Together
+pub mod Closed

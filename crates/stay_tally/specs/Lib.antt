@@ -1,0 +1,5 @@
+pub mod Tally
+pub mod Sums
+pub mod Laws
+pub mod Staying
+pub mod Crews
