@@ -1,5 +1,5 @@
 -- What a call has added in all, by what its steps told.
-use Rattle.std.proofs.Common.{◌≡◌, ℕ, ◌+◌, ◌^◌, ◌-◌, true, false, IfSome, sym, ap, ◌∙◌, subst}
+use Rattle.std.proofs.Common.{◌≡◌, ℕ, ◌+◌, ◌^◌, ◌-◌, true, false, IfSome, refl, sym, ap, ◌∙◌, subst}
 use Rattle.bay_core.specs.declared.calls.Layout.TheVariants.{Split}
 use Rattle.bay_core.specs.declared.calls.Op.TheVariants.{Push, Pop, Enq, Deq}
 use Rattle.bay_core.specs.declared.calls.Reply.{Reply}
@@ -38,6 +38,7 @@ answered blocks who v w w' n next frozen old held reply a is r =
       rests = ap (λ (y : BayView). y.stage) e;
       quiet = ap (λ (y : BayView). y.quiet_at) e;
       since = subst (λ (y : BayView). IfSome y.quiet_at (λ j. EmptySince j y.seen)) (sym is) a.quiet;
+      same = subst (λ (y : BayView). y ≡ record v { mine = y.mine; seen = y.seen; last = y.last; stage = y.stage; frozen = y.frozen; old = y.old; held = y.held }) (sym e) refl;
     }
 
 -- a call whose deciding step was its last one
@@ -78,6 +79,7 @@ unfrozen blocks who v u w stage n reply frozen old held e a = let b = subst (λ 
   rests = b.rests;
   quiet = b.quiet;
   since = b.since;
+  same = b.same;
 }
 
 module _ (blocks t who word old : ℕ) (v u w : BayView) (froze : u ≡ staged v (Froze word)) where

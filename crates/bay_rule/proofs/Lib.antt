@@ -9,5 +9,6 @@ pub mod CanShare
 pub mod Answering
 pub mod OneHistory
 pub mod Resting
+pub mod Callers
 pub mod Adds
 pub mod Rested

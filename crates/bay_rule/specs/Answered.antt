@@ -30,3 +30,12 @@ pub record Answered (blocks who : ℕ) (v w : BayView) (n : Noted) (reply : Repl
   pub rests : w.stage ≡ Resting
   pub quiet : w.quiet_at ≡ v.quiet_at
   pub since : IfSome w.quiet_at (λ k. EmptySince k w.seen)
+  pub same : w ≡ record v {
+    mine = w.mine;
+    seen = w.seen;
+    last = w.last;
+    stage = w.stage;
+    frozen = w.frozen;
+    old = w.old;
+    held = w.held;
+  }

@@ -1,0 +1,10 @@
+pub mod Making
+pub mod Listening
+pub mod AllShares
+pub mod Reading
+pub mod Parts
+pub mod Closing
+pub mod Shares
+pub mod Acted
+pub mod Calling
+pub mod Kept

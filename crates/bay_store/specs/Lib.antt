@@ -1,0 +1,10 @@
+pub mod Shows
+pub mod Sharing
+pub mod Acting
+pub mod Asking
+pub mod Calls
+pub mod Mending
+pub mod Answers
+pub mod Tokens
+pub mod Quiet
+pub mod Closing
