@@ -51,19 +51,19 @@ counted (e ∷ es) views apart each all =
     let here = found views e.who e.user (each 0 e refl) in
     let left = set views e.who idle in
     let rest = counted es left
-        (λ i j d f p q same. let k = apart (suc i) (suc j) d f p q same in omega (arith, k))
-        (λ i d at.
-        set_else views e.who d.who idle
-            (λ same. absurd (let k = apart (suc i) 0 d e at refl same in omega (arith, k)))
-        ∙ each (suc i) d at)
-        (λ c below. elim (cases_eq c e.who) [
-          | inl same ↦ inr (ap (λ (k : ℕ). (view_of left k).held) same
-              ∙ ap (λ (v : BayView). v.held) (get_or-set_same views e.who idle idle here.0))
-          | inr ne ↦ ⊎_elim (λ t. inl (in_rest e es c ne t))
-              (λ z. inr (ap (λ (v : BayView). v.held)
-              (get_or-set_other views e.who c idle idle ne) ∙ z))
-              (all c (omega (arith, below, length-set views e.who idle)))
-        ]) in
+    (λ i j d f p q same. let k = apart (suc i) (suc j) d f p q same in omega (arith, k))
+    (λ i d at.
+    set_else views e.who d.who idle
+    (λ same. absurd (let k = apart (suc i) 0 d e at refl same in omega (arith, k)))
+    ∙ each (suc i) d at)
+    (λ c below. elim (cases_eq c e.who) [
+      | inl same ↦ inr (ap (λ (k : ℕ). (view_of left k).held) same
+          ∙ ap (λ (v : BayView). v.held) (get_or-set_same views e.who idle idle here.0))
+      | inr ne ↦ ⊎_elim (λ t. inl (in_rest e es c ne t))
+          (λ z. inr (ap (λ (v : BayView). v.held)
+          (get_or-set_other views e.who c idle idle ne) ∙ z))
+          (all c (omega (arith, below, length-set views e.who idle)))
+    ]) in
     omega (
       arith,
       shares_set views e.who idle here.0,
@@ -80,11 +80,11 @@ module _ (ended : List (Ended BayView)) (views : List BayView) (many : length en
   each_ended c below =
       let who : Ended BayView → ℕ = λ e. e.who in
       let at = each_is_in (map who ended) (length views) (length-map ended who ∙ many)
-          (λ i a at. let f = of_map who ended i a at in
-          subst (λ (x : ℕ). x < length views) f.2 (found views f.0.who f.0.user (each i f.0 f.1)).0)
-          (λ i j a p q. let f = of_map who ended i a p in let g = of_map who ended j a q in
-          apart i j f.0 g.0 f.1 g.1 (f.2 ∙ sym g.2))
-          c below in
+      (λ i a at. let f = of_map who ended i a at in
+      subst (λ (x : ℕ). x < length views) f.2 (found views f.0.who f.0.user (each i f.0 f.1)).0)
+      (λ i j a p q. let f = of_map who ended i a p in let g = of_map who ended j a q in
+      apart i j f.0 g.0 f.1 g.1 (f.2 ∙ sym g.2))
+      c below in
       let e = of_map who ended at.0 c at.1 in (at.0, e.0, e.1, e.2)
 
   -- they hold all shares

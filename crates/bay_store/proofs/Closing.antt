@@ -48,7 +48,7 @@ stack_is : (blocks : ℕ) (h : List Noted) (words items : List ℕ) → IsAtRest
 stack_is blocks h words items r read =
     let long : length items ≡ length (after h).stack = omega (arith, read.long, r.top) in
     same_number_lists items (after h).stack long (λ i below.
-        read.each i (omega (arith, below, read.long)) ∙ r.stack i (omega (arith, below, long)))
+    read.each i (omega (arith, below, read.long)) ∙ r.stack i (omega (arith, below, long)))
 
 queue_is : (blocks : ℕ) (h : List Noted) (words items : List ℕ) → IsAtRest blocks h words
     → AreRead (get_or words 2 0 - get_or words 1 0) (λ i. queue_word blocks (get_or words 1 0 + i))
@@ -57,7 +57,7 @@ queue_is : (blocks : ℕ) (h : List Noted) (words items : List ℕ) → IsAtRest
 queue_is blocks h words items r read =
     let long : length items ≡ length (after h).queue = omega (arith, read.long, r.head, r.tail) in
     same_number_lists items (after h).queue long (λ i below.
-        read.each i (omega (arith, below, read.long)) ∙ r.queue i (omega (arith, below, long)))
+    read.each i (omega (arith, below, read.long)) ∙ r.queue i (omega (arith, below, long)))
 
 module _ (site : TableId) (x : BayUse) (callers : ℕ) (passes : List (Caller BayView))
     (words : List ℕ) (slots : List (Option (Unit {0}))) (all : AreAll site callers passes)
@@ -82,7 +82,7 @@ module _ (site : TableId) (x : BayUse) (callers : ℕ) (passes : List (Caller Ba
   of_one j n at =
       let below = of_a_caller x.blocks left.lawful.0 words left.views has j n at in
       let e = each_ended (map last_of passes) left.views many (ended_apart passes all.once) left.each
-          n.who below in
+      n.who below in
       let p = of_map last_of passes e.0 e.1 e.2 in
       (e.0, p.0, p.1, sym e.3 ∙ ap (λ (z : Ended BayView). z.who) (sym p.2))
 

@@ -20,8 +20,8 @@ read_more at words old new n m item next is here r = record {
   each = λ i below. ap (λ (l : List ℕ). get_or l i 0) is ∙ elim (cases_lt i n) [
     | inl less ↦ get_or-append old (item ∷ []) 0 i (omega (arith, less, r.long)) ∙ r.each i less
     | inr past ↦ (let e : i ≡ n = omega (arith, past, below, next) in
-      get_or_push old item 0 i (omega (arith, e, r.long)) ∙ here
-      ∙ ap (λ (k : ℕ). get_or words (at k) 0) (sym e))
+        get_or_push old item 0 i (omega (arith, e, r.long)) ∙ here
+        ∙ ap (λ (k : ℕ). get_or words (at k) 0) (sym e))
   ];
 }
 

@@ -68,13 +68,7 @@ impl Bay {
 
     // Goes into the room of the operation, does it and leaves. There is no receipt where the pass
     // had made its last draw.
-    fn call<R: Wait>(
-        &self,
-        rt: &R,
-        pass: BayPass,
-        op: Op,
-        item: u64,
-    ) -> (BayPass, Option<Receipt>)
+    fn call<R: Wait>(&self, rt: &R, pass: BayPass, op: Op, item: u64) -> (BayPass, Option<Receipt>)
         requires own { pass.site ≡ self.now.site }
         requires may { MayAsk op item pass.user.held }
         ensures { CallGives self.now.usage.blocks op item pass result.0 result.1 }
@@ -90,13 +84,7 @@ impl Bay {
 
     // Asks for the room of the operation, and waits until it is inside; or gives the pass back,
     // which had made its last draw.
-    fn go_in<R: Wait>(
-        &self,
-        rt: &R,
-        pass: BayPass,
-        op: Op,
-        item: u64,
-    ) -> Result<BayInside, BayPass>
+    fn go_in<R: Wait>(&self, rt: &R, pass: BayPass, op: Op, item: u64) -> Result<BayInside, BayPass>
         requires own { pass.site ≡ self.now.site }
         requires may { MayAsk op item pass.user.held }
         ensures inside { IfOk result (λ i. (pass.draws < pass.limit) × GoesInto pass op item i) }

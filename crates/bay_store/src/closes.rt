@@ -151,11 +151,7 @@ impl Bay {
     /// Takes the bay apart, with the passes of all its callers, and gives what its lists hold. It
     /// takes the memory of the answer first; where there is none, it hands back the bay and the
     /// passes.
-    pub fn close(
-        self,
-        alloc: Global,
-        passes: Vec<BayPass>,
-    ) -> Result<Closed, (Bay, Vec<BayPass>)>
+    pub fn close(self, alloc: Global, passes: Vec<BayPass>) -> Result<Closed, (Bay, Vec<BayPass>)>
         requires { AreAll self.site self.callers passes.items }
         ensures closed { IfOk result (λ c. IsClosed self.usage.blocks self.callers passes.items c) }
         ensures back { IfErr result (λ b. (b.0 ≡ self) × (b.1.items ≡ passes.items)) }

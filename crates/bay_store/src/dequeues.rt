@@ -10,11 +10,7 @@ use room_gate::{Inside, Rooms};
 
 /// Loads `tail`, draws the oldest position of the queue and loads its item; where the queue is empty
 /// there is none. The answer is the rank and the reply.
-pub(crate) fn dequeue(
-    rooms: &Rooms<BayUse>,
-    inside: &mut Inside<BayUse>,
-    who: u32,
-) -> (u64, Reply)
+pub(crate) fn dequeue(rooms: &Rooms<BayUse>, inside: &mut Inside<BayUse>, who: u32) -> (u64, Reply)
     requires own { inside.old.caller.site ≡ rooms.now.site }
     requires who { inside.old.caller.who ≡ who }
     requires ready { IsReady 3 inside.old }

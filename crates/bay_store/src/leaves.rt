@@ -50,8 +50,7 @@ impl Bay {
         ensures same { pass.new ≡ holding pass.old result }
     {
         let less = held - 1;
-        self.rooms
-            .touch_sub(pass, LIVE, 1, &Sharing { held: less });
+        self.rooms.touch_sub(pass, LIVE, 1, &Sharing { held: less });
         less
     }
 }

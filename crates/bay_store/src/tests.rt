@@ -4,8 +4,10 @@ ghost use Rattle.room_rule.specs.Use.{IsAt};
 ghost use Rattle.room_gate.specs.Shows.{Caller};
 ghost use Rattle.bay_rule.specs.declared.views.BayView.{BayView};
 
-use crate::{Bay, BayActed, BayAsk, BayDone, BayInside, BayPass, BayPolled, BayWaiting};
-use crate::{Popped, Pushed, Receipt};
+use crate::{
+    Bay, BayActed, BayAsk, BayDone, BayInside, BayPass, BayPolled, BayWaiting, Popped, Pushed,
+    Receipt,
+};
 use bay_core::{Layout, Op, Reply};
 use std::alloc::AllocError;
 use std::process::Abort;
@@ -26,11 +28,7 @@ fn taken(bay: &Bay, passes: &mut Vec<BayPass>) -> Option<BayPass>
 
 // The turn, the rank and the reply.
 fn stamp(receipt: &Receipt) -> (u64, u64, Reply) {
-    (
-        receipt.entry.turn,
-        receipt.entry.rank,
-        receipt.entry.reply,
-    )
+    (receipt.entry.turn, receipt.entry.rank, receipt.entry.reply)
 }
 
 // Puts an item on the stack, or into the queue. What it gives back is its receipt.
@@ -139,7 +137,10 @@ fn a_pass_is_spent_after_its_draws(rt: HostRuntime) -> Result<(), AllocError> {
     assert_eq!(rt; popped, (2, 4_294_967_295, Reply::Item(1)));
     let (pass, spent) = bay.pop(&rt, pass);
     assert_eq!(rt; spent, Popped::Spent);
-    assert_eq!(rt; (pass.who(), pass.held(), pass.draws(), pass.limit()), (0, 2, 2, 2));
+    assert_eq!(rt;
+        (pass.who(), pass.held(), pass.draws(), pass.limit()),
+        (0, 2, 2, 2)
+    );
     Ok(())
 }
 
