@@ -1,0 +1,169 @@
+#!/usr/bin/env python3
+"""Checks the printed history of a bay against a plain stack and a plain queue.
+
+It reads the text from standard input, or from the file that is named: a line for each entry, `TURN
+RANK WHO OP ARG REPLY`, then lines `caller C answered K of L` if there are any, then a line `stack`
+and a line `queue` with the items of the lists at the end, and any lines `live N`. It prints
+`ok N entries`, or the first fault, with status 1. Each list has 32 cells for each block, of which
+--blocks says how many there are.
+"""
+import argparse
+import sys
+
+FIRST_OF_STACK = 2**32
+PUTS = ("push", "enq")
+OPERATIONS = ("push", "pop", "enq", "deq")
+
+
+class Fault(Exception):
+    """What is wrong with a text."""
+
+
+class Bay:
+    """A plain stack and a plain queue."""
+
+    def __init__(self, blocks):
+        self.cells = 32 * blocks
+        self.stack = []
+        self.queue = []
+        self.taken = 0
+
+    def first_rank(self, operation):
+        """The rank of the first call of a turn."""
+        return {
+            "push": FIRST_OF_STACK + len(self.stack),
+            "pop": FIRST_OF_STACK - len(self.stack),
+            "enq": self.taken + len(self.queue),
+            "deq": self.taken,
+        }[operation]
+
+    def reply(self, operation, item):
+        """What the call answers, and what it leaves."""
+        if operation in PUTS:
+            items = self.stack if operation == "push" else self.queue
+            if len(items) >= self.cells:
+                return "full"
+            items.append(item)
+            return "ok"
+        items = self.stack if operation == "pop" else self.queue
+        if not items:
+            return "empty"
+        if operation == "pop":
+            return str(items.pop())
+        self.taken += 1
+        return str(items.pop(0))
+
+
+def number(word):
+    """The number that a word spells in digits."""
+    if not (word.isascii() and word.isdigit()) or (len(word) > 1 and word[0] == "0"):
+        raise Fault(f"{word!r} is no number")
+    value = int(word)
+    if value >= 2**64:
+        raise Fault(f"{word} has more than 64 bits")
+    return value
+
+
+def check_entry(bay, words, before, calls):
+    """Checks one entry after those before it, and gives its turn, rank and operation."""
+    if len(words) != 6:
+        raise Fault("an entry has six words")
+    turn, rank, who = number(words[0]), number(words[1]), number(words[2])
+    operation, argument, reply = words[3:]
+    if operation not in OPERATIONS:
+        raise Fault(f"no operation {operation!r}")
+    if (operation in PUTS) == (argument == "-"):
+        raise Fault(f"argument {argument!r} of {operation}")
+    if turn == 0:
+        raise Fault("turn 0")
+    if before is not None and (turn, rank) <= before[:2]:
+        raise Fault("turn and rank do not rise")
+    if before is not None and turn == before[0]:
+        if operation != before[2]:
+            raise Fault("two operations in one turn")
+        if rank != before[1] + 1:
+            raise Fault(f"rank {rank} after {before[1]} in one turn")
+    elif rank != bay.first_rank(operation):
+        raise Fault(f"first rank {rank}, not {bay.first_rank(operation)}")
+    item = number(argument) if operation in PUTS else 0
+    lawful = bay.reply(operation, item)
+    if reply != lawful:
+        raise Fault(f"reply {reply}, not {lawful}")
+    calls[who] = calls.get(who, 0) + 1
+    return turn, rank, operation
+
+
+def check_answered(words, calls, answered):
+    """Checks a line that says how many calls of a caller were answered."""
+    if len(words) != 6 or words[2] != "answered" or words[4] != "of":
+        raise Fault("no line 'caller C answered K of L'")
+    who, made, asked = number(words[1]), number(words[3]), number(words[5])
+    if who in answered:
+        raise Fault(f"caller {who} twice")
+    if made > asked:
+        raise Fault("more calls answered than made")
+    if made != calls.get(who, 0):
+        raise Fault(f"{calls.get(who, 0)} entries of caller {who}, not {made}")
+    answered.add(who)
+
+
+def check_list(words, items):
+    """Checks the line of a list at the end."""
+    if [number(word) for word in words[1:]] != items:
+        raise Fault(f"the {words[0]} holds other items than the entries leave")
+
+
+def check(lines, blocks):
+    """How many entries there are, where all lines are as they should be."""
+    bay, before, calls, answered, stage = Bay(blocks), None, {}, set(), 0
+    stages = {"caller": 1, "stack": 2, "queue": 3, "live": 4}
+    entries = 0
+    for place, line in enumerate(lines, 1):
+        words = line.split(" ")
+        now = stages.get(words[0], 0)
+        try:
+            if now < stage or (now == stage and now >= 2) or (now >= 3 and stage < now - 1):
+                raise Fault("a line out of its place")
+            stage = now
+            if now == 0:
+                before = check_entry(bay, words, before, calls)
+                entries += 1
+            elif now == 1:
+                check_answered(words, calls, answered)
+            elif now == 2:
+                check_list(words, bay.stack)
+            elif now == 3:
+                check_list(words, bay.queue)
+            elif len(words) != 2 or number(words[1]) < len(bay.stack) + len(bay.queue):
+                raise Fault("live is less than the items")
+        except Fault as fault:
+            raise Fault(f"line {place}: {fault}: {line[:120]}") from None
+    if stage < 3:
+        raise Fault("the lines of the stack and the queue are wanting")
+    if answered and set(calls) - answered:
+        raise Fault(f"no line for caller {min(set(calls) - answered)}")
+    return entries
+
+
+def main():
+    """Reads, checks and prints."""
+    options = argparse.ArgumentParser(description="Checks the printed history of a bay.")
+    options.add_argument("--blocks", type=int, default=64)
+    options.add_argument("file", nargs="?")
+    given = options.parse_args()
+    if given.file:
+        with open(given.file, encoding="ascii") as file:
+            text = file.read()
+    else:
+        text = sys.stdin.read()
+    try:
+        if not text.endswith("\n"):
+            raise Fault("the last line has no end")
+        print(f"ok {check(text[:-1].split(chr(10)), given.blocks)} entries")
+    except Fault as fault:
+        print(fault)
+        sys.exit(1)
+
+
+if __name__ == "__main__":
+    main()
