@@ -1,0 +1,86 @@
+//! The history of a crew: printed, or checked.
+use bay_core::{Entry, Layout};
+use bay_crew::{Mix, Ran, crew};
+use room_history::{check, merge, print_entries};
+use std::alloc::Global;
+use std::io;
+use std::io::{ErrorKind, Print};
+use std::sync::Wait;
+use std::thread::Threads;
+
+/// How many blocks the bay has.
+const BLOCKS: u32 = 64;
+
+// The failure of a history that isn't as it should be.
+fn not_whole() -> io::Error {
+    io::Error::from(ErrorKind::InvalidData)
+}
+
+// Runs a crew on both lists, and merges its entries.
+fn history<R: Threads + Wait + Sync>(
+    rt: &R,
+    alloc: Global,
+    callers: u32,
+    calls: u32,
+) -> io::Result<(Vec<Entry>, Ran)> {
+    if callers > 64 {
+        return Err(not_whole());
+    }
+    let ran = crew(rt, alloc, BLOCKS, callers, calls, Mix::Both)?;
+    match merge(alloc, &ran.entries) {
+        Ok(all) => Ok((all, ran)),
+        Err(_) => Err(not_whole()),
+    }
+}
+
+/// Prints the entries of all calls, the items of both lists at the end, and the last `live`, to
+/// standard output. It fails where there are more than 64 callers.
+pub fn print_history<R: Threads + Wait + Sync + Print>(
+    rt: &R,
+    alloc: Global,
+    callers: u32,
+    calls: u32,
+) -> io::Result<()> {
+    let (all, ran) = history(rt, alloc, callers, calls)?;
+    let text = print_entries(alloc, &all)?;
+    let Ok(lines) = String::from_utf8(text) else {
+        return Err(not_whole());
+    };
+    print!(rt; "{lines}")?;
+    print_items(rt, "stack", &ran.closed.stack)?;
+    print_items(rt, "queue", &ran.closed.queue)?;
+    println!(rt; "live {}", ran.closed.live)
+}
+
+// Prints a line with a name and items.
+fn print_items<R: Print>(rt: &R, name: &str, items: &[u64]) -> io::Result<()> {
+    print!(rt; "{name}")?;
+    for item in items {
+        print!(rt; " {item}")?;
+    }
+    println!(rt)
+}
+
+/// Checks a small history, and that it leaves what the bay had left. It fails where that isn't so.
+pub fn try_history<R: Threads + Wait + Sync>(rt: &R, alloc: Global) -> io::Result<()> {
+    let (all, ran) = history(rt, alloc, 4, 50)?;
+    let Ok(state) = check(alloc, Layout::Split, BLOCKS, &all) else {
+        return Err(not_whole());
+    };
+    let (oldest, newest) = state.queue().as_slices();
+    let stack = state.stack() == ran.closed.stack.as_slice();
+    let queue = is_made_of(&ran.closed.queue, oldest, newest);
+    if all.len() == 200 && stack && queue {
+        Ok(())
+    } else {
+        Err(not_whole())
+    }
+}
+
+// Whether the items are those of both slices, one after the other.
+fn is_made_of(items: &[u64], first: &[u64], second: &[u64]) -> bool {
+    match items.strip_prefix(first) {
+        Some(rest) => rest == second,
+        None => false,
+    }
+}

@@ -1,0 +1,15 @@
+//! Two callers in threads.
+use crate::{Mix, crew};
+use bay_core::Layout;
+use room_history::{check, merge};
+use std::test::Fail;
+
+#[test]
+fn the_entries_of_two_callers_are_the_history(rt: HostRuntime) -> Result<(), Fail> {
+    let ran = crew(&rt, rt.alloc(), 2, 2, 60, Mix::Both)?;
+    let history = merge(rt.alloc(), &ran.entries)?;
+    assert_eq!(rt; history.len(), 120);
+    let state = check(rt.alloc(), Layout::Split, 2, &history)?;
+    assert_eq!(rt; state.stack(), ran.closed.stack.as_slice());
+    Ok(())
+}
