@@ -1,10 +1,12 @@
-//! A program that prints the history of a bay.
+//! A program that prints the history of a bay, and times its calls.
 //!
-//! With the words `history CALLERS CALLS` it prints the entries of all calls and what the bay had
+//! With the words `stack N` or `queue N` it writes to standard error what a call takes where each
+//! thread puts N items and takes as many. With the words `history CALLERS CALLS` it prints the entries of all calls and what the bay had
 //! left; there are at most 64 callers. With no word it makes a small history and checks it.
 #![tactic(auto)]
 
 mod histories;
+mod timing;
 mod words;
 
 use std::alloc::AllocGlobal;
@@ -27,6 +29,7 @@ fn main(rt: HostRuntime) -> ExitCode {
         Ok(Some(Command::History(callers, calls))) => {
             histories::print_history(&rt, rt.alloc(), callers, calls)
         }
+        Ok(Some(Command::Time(mix, items))) => timing::time_all(&rt, rt.alloc(), mix, items),
         Ok(Some(Command::Try)) => histories::try_history(&rt, rt.alloc()),
         Ok(None) => return refused(&rt),
         Err(error) => Err(error),

@@ -1,10 +1,13 @@
 //! The words of the command line.
+use bay_crew::Mix;
 
 /// What the program can be told to do.
 #[derive(Clone, Copy)]
 pub enum Command {
     /// To print the history of so many callers, with so many calls each.
     History(u32, u32),
+    /// To time calls on a list, of which each thread puts so many items and takes as many.
+    Time(Mix, u32),
     /// To check a small history.
     Try,
 }
@@ -14,9 +17,20 @@ pub enum Command {
 pub fn named_command(words: &[String]) -> Option<Command> {
     match words {
         [] => Some(Command::Try),
+        [list, items] => time_of(list.as_str(), items.as_str()),
         [name, callers, calls] => history_of(name.as_str(), callers.as_str(), calls.as_str()),
         _ => None,
     }
+}
+
+// The command of two words.
+fn time_of(list: &str, items: &str) -> Option<Command> {
+    let mix = match list {
+        "stack" => Mix::Stack,
+        "queue" => Mix::Queue,
+        _ => return None,
+    };
+    Some(Command::Time(mix, number(items)?))
 }
 
 // The command of three words.

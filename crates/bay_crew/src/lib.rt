@@ -5,9 +5,11 @@ mod calls;
 mod crews;
 mod mixes;
 mod shifts;
+mod timings;
 
 pub use crews::{Ran, crew};
 pub use mixes::Mix;
+pub use timings::timed;
 
 #[cfg(test)]
 mod tests;

@@ -1,0 +1,49 @@
+//! What a call takes.
+ghost use Rattle.std.specs.Prelude.{◌≤◌};
+
+use bay_crew::{Mix, timed};
+use std::alloc::Global;
+use std::io;
+use std::io::Eprint;
+use std::sync::Wait;
+use std::thread::Threads;
+use std::time::{Clock, Instant};
+
+/// How many blocks the bay has.
+const BLOCKS: u32 = 64;
+
+/// Times 1, 2 and 4 threads, each of which puts `items` items and takes as many, one by one and in
+/// runs of 32, and writes a line for each to standard error. It waits for the threads.
+pub fn time_all<R: Threads + Wait + Sync + Clock + Eprint>(
+    rt: &R,
+    alloc: Global,
+    mix: Mix,
+    items: u32,
+) -> io::Result<()> {
+    for threads in [1, 2, 4] {
+        time(rt, alloc, threads, items, 1, mix)?;
+        time(rt, alloc, threads, items, 32, mix)?;
+    }
+    Ok(())
+}
+
+// Times the set-up and all calls, and writes the nanoseconds over the number of all calls.
+fn time<R: Threads + Wait + Sync + Clock + Eprint>(
+    rt: &R,
+    alloc: Global,
+    threads: u32,
+    items: u32,
+    run: u32,
+    mix: Mix,
+) -> io::Result<()>
+    requires threads { threads ≤ 64 }
+    requires run { 1 ≤ run }
+{
+    let start = Instant::now(rt)?;
+    timed(rt, alloc, BLOCKS, threads, items, run, mix)?;
+    let taken = start.elapsed(rt)?.as_nanos();
+    let calls = u128::from(threads) * 2 * u128::from(items);
+    let each = taken.checked_div(calls).unwrap_or(0);
+    let list = if mix == Mix::Stack { "stack" } else { "queue" };
+    eprintln!(rt; "{list} threads {threads} run {run} ns_per_op {each}")
+}
