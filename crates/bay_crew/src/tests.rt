@@ -1,5 +1,5 @@
 //! Two callers in threads.
-use crate::{Mix, crew};
+use crate::{Mix, crew, timed};
 use bay_core::Layout;
 use room_history::{check, merge};
 use std::test::Fail;
@@ -11,5 +11,13 @@ fn the_entries_of_two_callers_are_the_history(rt: HostRuntime) -> Result<(), Fai
     assert_eq!(rt; history.len(), 120);
     let state = check(rt.alloc(), Layout::Split, 2, &history)?;
     assert_eq!(rt; state.stack(), ran.closed.stack.as_slice());
+    Ok(())
+}
+
+#[test]
+fn callers_come_back_from_each_list(rt: HostRuntime) -> Result<(), Fail> {
+    for mix in [Mix::Stack, Mix::Queue, Mix::Both] {
+        timed(&rt, rt.alloc(), 1, 2, 8, 4, mix)?;
+    }
     Ok(())
 }
