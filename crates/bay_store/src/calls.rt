@@ -43,7 +43,9 @@ impl Bay {
         (pass, popped(receipt))
     }
 
-    /// Puts the item at the end of the queue, as `push` does on the stack.
+    /// Puts the item at the end of the queue, where there is a cell for it. The pass holds a share.
+    /// Full comes exactly where the queue had 32 items for each block, and Spent where the pass had
+    /// made its last draw. It waits for those that are let in before it to leave, and takes no memory.
     pub fn enqueue<R: Wait>(&self, rt: &R, pass: BayPass, item: u64) -> (BayPass, Pushed)
         requires own { pass.site ≡ self.now.site }
         requires share { 1 ≤ pass.user.held }
@@ -55,7 +57,9 @@ impl Bay {
         (pass, pushed(receipt))
     }
 
-    /// Takes the oldest item of the queue, as `pop` does from the stack.
+    /// Takes the oldest item of the queue, whose share is the caller's then. Empty comes exactly where
+    /// there was none, and Spent where the pass had made its last draw. It waits for those that are let
+    /// in before it to leave, and takes no memory.
     pub fn dequeue<R: Wait>(&self, rt: &R, pass: BayPass) -> (BayPass, Popped)
         requires own { pass.site ≡ self.now.site }
         ensures gives { TakeGives self.now.usage.blocks ops.Deq pass result.0 result.1 }

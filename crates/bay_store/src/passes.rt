@@ -1,5 +1,6 @@
 //! A caller of a bay that is in no call.
 ghost use Rattle.std.specs.Prelude.{◌≡◌, ◌^◌, ◌≤◌, ◌+◌};
+ghost use Rattle.bay_core.specs.History.{own};
 
 use bay_rule::BayUse;
 use room_gate::Pass;
@@ -26,9 +27,11 @@ impl Model for BayPass {
 }
 
 impl BayPass {
-    /// The caller's number: the passes of a set-up have 0, 1, 2 and so on.
+    /// The caller's number: the passes of a set-up have 0, 1, 2 and so on. Its own calls are those of
+    /// this number in the history that it has seen.
     pub fn who(&self) -> u32
-        ensures { result ≡ self.now.who }
+        ensures value { result ≡ self.now.who }
+        ensures mine { self.now.user.mine ≡ own self.now.who self.now.user.seen }
     {
         self.pass.who()
     }
