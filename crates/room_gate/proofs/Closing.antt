@@ -1,5 +1,5 @@
 -- What the loops of a close keep, and what is left at its end.
-use Rattle.std.proofs.Common.{◌≡◌, ℕ, zero, suc, ◌+◌, ◌*◌, ◌<◌, ◌≤◌, inl, inr, Bool, true, false, get_or, set, Option, List, [], ◌∷◌, ◌++◌, map, take, drop, length, refl, ap, sym, ◌∙◌, subst, arith}
+use Rattle.std.proofs.Common.{◌≡◌, ◌≢◌, ◌⊎◌, ℕ, zero, suc, ◌+◌, ◌*◌, ◌<◌, ◌≤◌, inl, inr, Bool, true, false, get_or, set, Option, List, [], ◌∷◌, ◌++◌, map, take, drop, length, refl, ap, sym, ◌∙◌, subst, arith}
 use mathlib.Core.Option.{some-injective}
 use Rattle.std.proofs.lemmas.Bool.{cases_eq}
 use Rattle.std.proofs.lemmas.List.{get_or-set_same, get_or-set_other}
@@ -11,7 +11,6 @@ use Rattle.room_rule.specs.declared.rule.Plan.{Plan}
 use Rattle.room_rule.specs.declared.views.Ended.{Ended}
 use Rattle.room_rule.proofs.Lists.{none_there, of_map}
 use Rattle.room_gate.specs.Shows.{Caller}
-use Rattle.room_gate.specs.Making.{ArePasses}
 use Rattle.room_gate.specs.Closing.{AreAll, last_of, IsLeft}
 
 -- one value more of a list is copied
@@ -79,18 +78,42 @@ ended_apart passes once i j e f at there same =
     once i j a.0 b.0 a.1 b.1
     (ap (λ (z : Ended _). z.who) a.2 ∙ same ∙ sym (ap (λ (z : Ended _). z.who) b.2))
 
--- the passes that a set-up makes
-pub newcomers_are_all : {V : Type 0} (site : TableId) (limit callers : ℕ) (starts : ℕ → V)
-    (passes : List (Caller V)) → ArePasses site limit starts callers passes
-    → AreAll site callers passes
-newcomers_are_all site limit callers starts passes h =
-    let who : (i : ℕ) (p : Caller _) → IsAt passes i p → p.who ≡ i =
-    λ i p at. ap (λ (z : Caller _). z.who) (h.each i p at) in
-    record {
-      many = h.long;
-      own = λ i p at. ap (λ (z : Caller _). z.site) (h.each i p at);
-      once = λ i j p q at there same. sym (who i p at) ∙ same ∙ who j q there;
-    }
+-- two values that were pushed
+pub two_pushed : {A : Type 0} (a b : A) (none first both : List A) → none ≡ []
+    → first ≡ none ++ a ∷ [] → both ≡ first ++ b ∷ [] → both ≡ a ∷ b ∷ []
+two_pushed a b none first both empty one two =
+    two ∙ ap (λ (l : List _). l ++ b ∷ []) (one ∙ ap (λ (l : List _). l ++ a ∷ []) empty)
+
+-- the passes of two callers, the one before the other
+module _ {V : Type 0} (one two : Caller V) where
+  of_site : (site : TableId) (i : ℕ) (p : Caller V) → one.site ≡ site → two.site ≡ site
+      → IsAt (one ∷ two ∷ []) i p → p.site ≡ site
+  of_site site zero p own its at = subst (λ (z : Caller V). z.site ≡ site) (some-injective one p at) own
+  of_site site (suc zero) p own its at = subst (λ (z : Caller V). z.site ≡ site) (some-injective two p at) its
+  of_site site (suc (suc i)) p own its at = absurd (none_there i p at)
+
+  of_number : (i : ℕ) (p : Caller V) → IsAt (one ∷ two ∷ []) i p
+      → ((i ≡ 0) × (one.who ≡ p.who)) ⊎ ((i ≡ 1) × (two.who ≡ p.who))
+  of_number zero p at = inl (refl, ap (λ (z : Caller V). z.who) (some-injective one p at))
+  of_number (suc zero) p at = inr (refl, ap (λ (z : Caller V). z.who) (some-injective two p at))
+  of_number (suc (suc i)) p at = absurd (none_there i p at)
+
+  pub two_are_all : (site : TableId) (callers : ℕ) → callers ≡ 2 → one.site ≡ site → two.site ≡ site
+      → one.who ≢ two.who → AreAll site callers (one ∷ two ∷ [])
+  two_are_all site callers many own its apart = record {
+    many = sym many;
+    own = λ i p at. of_site site i p own its at;
+    once = λ i j p q at there same. elim (of_number i p at) [
+      | inl a ↦ elim (of_number j q there) [
+        | inl b ↦ a.0 ∙ sym b.0
+        | inr b ↦ absurd (apart (a.1 ∙ same ∙ sym b.1))
+      ]
+      | inr a ↦ elim (of_number j q there) [
+        | inl b ↦ absurd (apart (b.1 ∙ sym same ∙ sym a.1))
+        | inr b ↦ a.0 ∙ sym b.0
+      ]
+    ];
+  }
 
 past_first : (a b : List ℕ) (n : ℕ) → length a ≡ n → drop n (a ++ b) ≡ b
 past_first [] b zero e = refl

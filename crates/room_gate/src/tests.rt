@@ -1,6 +1,7 @@
 //! The cycle of a room, on one thread and on two.
-ghost use Rattle.std.specs.Prelude.{◌≡◌, ◌<◌, Some, IfSome};
+ghost use Rattle.std.specs.Prelude.{◌≡◌, ◌≢◌, ◌<◌, Some, IfSome, IfOk};
 ghost use Rattle.room_rule.specs.Openings.{IsCovered};
+ghost use Rattle.room_gate.specs.Closing.{AreAll};
 ghost use Rattle.room_gate.specs.Making.{ArePasses};
 ghost use Rattle.room_gate.specs.Shows.{newcomer};
 
@@ -118,7 +119,7 @@ fn held_off<U: RoomUse>(rt: &impl Abort, rooms: &Rooms<U>, waiting: Waiting<U>) 
 fn out<U: RoomUse>(rt: &impl Abort, rooms: &Rooms<U>, inside: Inside<U>) -> Pass<U>
     requires own { inside.caller.site ≡ rooms.now.site }
     requires may { U.meaning.may_leave rooms.now.usage inside.caller.user }
-    ensures { result.site ≡ rooms.now.site }
+    ensures { (result.site ≡ rooms.now.site) × (result.who ≡ inside.caller.who) }
 {
     match rooms.leave(inside) {
         Left::Out(pass) => pass,
@@ -135,7 +136,7 @@ fn left_last<U: RoomUse, E: ExitCode<U>>(
 ) -> Pass<U>
     requires own { inside.caller.site ≡ rooms.now.site }
     requires may { U.meaning.may_leave rooms.now.usage inside.caller.user }
-    ensures { result.site ≡ rooms.now.site }
+    ensures { (result.site ≡ rooms.now.site) × (result.who ≡ inside.caller.who) }
 {
     let turn = (inside.room(), inside.turn());
     match rooms.leave(inside) {
@@ -197,6 +198,63 @@ fn a_late_ticket_waits_for_a_later_turn(rt: HostRuntime) -> Result<(), AllocErro
     Ok(())
 }
 
+// Closes rooms with the passes of all callers: how many words and slots are left.
+fn close_all<U: RoomUse>(
+    alloc: Global,
+    rooms: Rooms<U>,
+    passes: Vec<Pass<U>>,
+) -> Result<(usize, usize), AllocError>
+    requires { AreAll rooms.site rooms.callers passes.items }
+    ensures { IfOk result (λ n. (n.0 ≡ U.meaning.words rooms.usage) × (n.1 ≡ U.meaning.slots rooms.usage)) }
+{
+    match rooms.close(alloc, passes) {
+        Ok(left) => Ok((left.words.len(), left.slots.len())),
+        Err(_) => Err(AllocError),
+    }
+}
+
+// Closes rooms of two callers.
+fn close_two<U: RoomUse>(
+    alloc: Global,
+    rooms: Rooms<U>,
+    one: Pass<U>,
+    two: Pass<U>,
+) -> Result<(usize, usize), AllocError>
+    requires own { (one.site ≡ rooms.site) × (two.site ≡ rooms.site) }
+    requires both { (rooms.callers ≡ 2) × (one.who ≢ two.who) }
+    ensures { IfOk result (λ n. (n.0 ≡ U.meaning.words rooms.usage) × (n.1 ≡ U.meaning.slots rooms.usage)) }
+{
+    let mut passes = Vec::with_capacity(alloc, 2)?;
+    passes.push_reserved(one);
+    passes.push_reserved(two);
+    close_all(alloc, rooms, passes)
+}
+
+#[test]
+fn two_tickets_are_let_in_by_one_opening(rt: HostRuntime) -> Result<(), AllocError> {
+    let (rooms, passes) = Rooms::<Bare>::set_up(rt.alloc(), Bare, 2, 10)?;
+    let (one, two) = pair(&rooms, 10, passes).expect(&rt, "two passes");
+    let one = drawn(&rt, &rooms, one, 0);
+    let mut two = drawn(&rt, &rooms, two, 0);
+    assert_eq!(rt; (one.ticket(), two.ticket()), (1, 2));
+    let mut one = entered(&rt, &rooms, one);
+    assert_eq!(rt; stay(&one), (0, 1, 1, 2, 0));
+    let note = rooms.note(&mut one);
+    rooms.learn(&mut two, note);
+    let mut two = entered(&rt, &rooms, two);
+    assert_eq!(rt; stay(&two), (0, 2, 1, 2, 1));
+    rooms.meet(&mut one, &mut two);
+    assert_eq!(rt; (one.room(), one.turn()), (0, 1));
+    assert_eq!(rt; (two.room(), two.turn()), (0, 1));
+    assert_eq!(rt; rooms.look(&mut two), (1, 0));
+    let one = out(&rt, &rooms, one);
+    let two = left_last(&rt, &rooms, two, &mut NoExit);
+    assert_eq!(rt; (one.draws(), two.draws()), (1, 1));
+    let left = close_two(rt.alloc(), rooms, one, two)?;
+    assert_eq!(rt; left, (0, 0));
+    Ok(())
+}
+
 type Stay = (usize, u64, u64, u64, u64);
 
 // Both draw, the first opens the room, the second learns of it, and the second leaves last.
@@ -226,15 +284,6 @@ fn share_a_turn<U: RoomUse, E: ExitCode<U>>(
         (0, 1, 1, 1)
     );
     stays
-}
-
-#[test]
-fn two_tickets_are_let_in_by_one_opening(rt: HostRuntime) -> Result<(), AllocError> {
-    let (rooms, passes) = Rooms::<Bare>::set_up(rt.alloc(), Bare, 2, 10)?;
-    let passes = pair(&rooms, 10, passes).expect(&rt, "two passes");
-    let stays = share_a_turn(&rt, &rooms, passes, 0, &mut NoExit);
-    assert_eq!(rt; stays, ((0, 1, 1, 2, 0), (0, 2, 1, 2, 1)));
-    Ok(())
 }
 
 #[test]
@@ -304,28 +353,11 @@ fn enters_as_told<U: RoomUse>(
     }
 }
 
-// Closes rooms whose passes made no draw: how many words and slots are left.
-fn close_new<U: RoomUse>(
-    alloc: Global,
-    rooms: Rooms<U>,
-    draws: u64,
-    passes: Vec<Pass<U>>,
-) -> Option<(usize, usize)>
-    requires { ArePasses rooms.site draws U.meaning.starts rooms.callers passes.items }
-    ensures { IfSome result (λ n. (n.0 ≡ U.meaning.words rooms.usage) × (n.1 ≡ U.meaning.slots rooms.usage)) }
-{
-    let _ = draws;
-    match rooms.close(alloc, passes) {
-        Ok(left) => Some((left.words.len(), left.slots.len())),
-        Err(_) => None,
-    }
-}
-
 #[test]
 fn rooms_alone_leave_no_words_and_no_slots(rt: HostRuntime) -> Result<(), AllocError> {
     let (rooms, passes) = Rooms::<Bare>::set_up(rt.alloc(), Bare, 2, 10)?;
-    let left = close_new(rt.alloc(), rooms, 10, passes);
-    assert_eq!(rt; left, Some((0, 0)));
+    let left = close_all(rt.alloc(), rooms, passes)?;
+    assert_eq!(rt; left, (0, 0));
     Ok(())
 }
 
