@@ -1,5 +1,5 @@
 //! Calls on a bay of one block, on one thread.
-ghost use Rattle.std.specs.Prelude.{◌≡◌, ◌≤◌, ℕ, IfSome};
+ghost use Rattle.std.specs.Prelude.{◌≡◌, ◌<◌, ◌≤◌, ℕ, length, IfSome};
 ghost use Rattle.room_rule.specs.Use.{IsAt};
 ghost use Rattle.room_gate.specs.Shows.{Caller};
 ghost use Rattle.bay_rule.specs.declared.views.BayView.{BayView};
@@ -15,11 +15,14 @@ use std::sync::Wait;
 
 mod closing;
 
-// The last of the passes, each of which holds one share.
+use closing::{close_one, close_two};
+
+// The last of the passes, each of which has its number and holds one share.
 fn taken(bay: &Bay, passes: &mut Vec<BayPass>) -> Option<BayPass>
-    requires { (i : ℕ) (p : Caller BayView) → IsAt passes.old.items i p → (p.site ≡ bay.now.site) × (p.user.held ≡ 1) }
-    ensures pass { IfSome result (λ p. (p.site ≡ bay.now.site) × (p.user.held ≡ 1)) }
-    ensures rest { (i : ℕ) (p : Caller BayView) → IsAt passes.new.items i p → (p.site ≡ bay.now.site) × (p.user.held ≡ 1) }
+    requires { (i : ℕ) (p : Caller BayView) → IsAt passes.old.items i p → (p.site ≡ bay.now.site) × (p.who ≡ i) × (p.user.held ≡ 1) }
+    ensures pass { IfSome result (λ p. (p.site ≡ bay.now.site) × (p.who ≡ length passes.new.items) × (p.user.held ≡ 1)) }
+    ensures rest { (i : ℕ) (p : Caller BayView) → IsAt passes.new.items i p → (p.site ≡ bay.now.site) × (p.who ≡ i) × (p.user.held ≡ 1) }
+    ensures fewer { IfSome result (λ _. length passes.new.items < length passes.old.items) }
 {
     let _ = bay;
     let pass = passes.pop()?;
@@ -107,6 +110,17 @@ fn a_stack_is_full_at_32_items(rt: HostRuntime) -> Result<(), AllocError> {
     let (pass, stored) = put(&rt, &bay, pass, Op::Push, 40);
     assert_eq!(rt; stored, (35, 4_294_967_327, Reply::Done));
     assert_eq!(rt; (pass.held(), pass.draws()), (2, 35));
+    let closed = close_one(rt.alloc(), bay, pass)?;
+    assert_eq!(rt;
+        closed.stack.as_slice(),
+        [
+            1, 2, 3, 4, 5, 6, 7, 8, 9, 10, 11, 12, 13, 14, 15, 16, 17, 18, 19, 20, 21, 22, 23, 24,
+            25, 26, 27, 28, 29, 30, 31, 40
+        ]
+        .as_slice()
+    );
+    assert_eq!(rt; closed.queue.len(), 0);
+    assert_eq!(rt; (closed.live, closed.blocks_free), (34, 0));
     Ok(())
 }
 
@@ -123,6 +137,17 @@ fn a_queue_is_full_at_32_items(rt: HostRuntime) -> Result<(), AllocError> {
     let (pass, stored) = put(&rt, &bay, pass, Op::Enq, 40);
     assert_eq!(rt; stored, (35, 32, Reply::Done));
     assert_eq!(rt; (pass.held(), pass.draws()), (2, 35));
+    let closed = close_one(rt.alloc(), bay, pass)?;
+    assert_eq!(rt; closed.stack.len(), 0);
+    assert_eq!(rt;
+        closed.queue.as_slice(),
+        [
+            2, 3, 4, 5, 6, 7, 8, 9, 10, 11, 12, 13, 14, 15, 16, 17, 18, 19, 20, 21, 22, 23, 24, 25,
+            26, 27, 28, 29, 30, 31, 32, 40
+        ]
+        .as_slice()
+    );
+    assert_eq!(rt; (closed.live, closed.blocks_free), (34, 0));
     Ok(())
 }
 
@@ -166,7 +191,7 @@ fn an_empty_bay_gives_nothing(rt: HostRuntime) -> Result<(), AllocError> {
 fn asked(rt: &impl Abort, bay: &Bay, pass: BayPass, item: u64) -> BayWaiting
     requires own { pass.site ≡ bay.now.site }
     requires share { 1 ≤ pass.user.held }
-    ensures { result.waiter.caller.site ≡ bay.now.site }
+    ensures { (result.waiter.caller.site ≡ bay.now.site) × (result.waiter.caller.who ≡ pass.who) }
 {
     match bay.ask(pass, Op::Push, item) {
         BayAsk::Waiting(waiting) => waiting,
@@ -177,7 +202,7 @@ fn asked(rt: &impl Abort, bay: &Bay, pass: BayPass, item: u64) -> BayWaiting
 // Polls, where that enters.
 fn entered(rt: &impl Abort, bay: &Bay, waiting: BayWaiting) -> BayInside
     requires { waiting.waiter.caller.site ≡ bay.now.site }
-    ensures { result.insider.caller.site ≡ bay.now.site }
+    ensures { (result.insider.caller.site ≡ bay.now.site) × (result.insider.caller.who ≡ waiting.waiter.caller.who) }
 {
     match bay.poll(waiting) {
         BayPolled::Entered(inside) => inside,
@@ -188,7 +213,7 @@ fn entered(rt: &impl Abort, bay: &Bay, waiting: BayWaiting) -> BayInside
 // Does the operation.
 fn acted(bay: &Bay, inside: BayInside) -> (BayDone, Receipt)
     requires { inside.insider.caller.site ≡ bay.now.site }
-    ensures { result.0.insider.caller.site ≡ bay.now.site }
+    ensures { (result.0.insider.caller.site ≡ bay.now.site) × (result.0.insider.caller.who ≡ inside.insider.caller.who) }
 {
     match bay.act(inside) {
         BayActed::Answered(done, receipt) => (done, receipt),
@@ -213,8 +238,9 @@ fn two_pushes_share_a_turn(rt: HostRuntime) -> Result<(), AllocError> {
     let two = bay.leave(two);
     assert_eq!(rt; (one.who(), one.held(), one.draws()), (0, 1, 1));
     assert_eq!(rt; (two.who(), two.held(), two.draws()), (1, 1, 1));
-    let (_, item, popped) = take(&rt, &bay, one, Op::Pop);
-    assert_eq!(rt; item, 8);
-    assert_eq!(rt; popped, (2, 4_294_967_294, Reply::Item(8)));
+    let closed = close_two(rt.alloc(), bay, one, two)?;
+    assert_eq!(rt; closed.stack.as_slice(), [7, 8].as_slice());
+    assert_eq!(rt; closed.queue.len(), 0);
+    assert_eq!(rt; closed.live, 4);
     Ok(())
 }
