@@ -1,0 +1,6 @@
+pub mod Receipts
+pub mod Telling
+pub mod Answering
+pub mod Places
+pub mod Together
+pub mod Texts

@@ -1,0 +1,85 @@
+-- What a caller's own calls tell, as the history goes on.
+use Rattle.std.proofs.Common.{◌≡◌, ◌≢◌, ℕ, ◌+◌, ◌≤◌, inl, inr, cond, List, [], ◌∷◌, ◌++◌, length, reverse, eqb, eq-eqb, refl, sym, ap, ◌∙◌, subst, arith}
+use Rattle.std.specs.List.{filter}
+use Rattle.std.proofs.lemmas.Bool.{cases_eq, ne_eqb}
+use Rattle.std.proofs.lemmas.List.{append-nil, append_assoc, reverse-append}
+use Rattle.std.proofs.lemmas.List.Elements.{filter-append}
+use Rattle.bay_core.specs.declared.calls.Entry.{Entry}
+use Rattle.bay_core.specs.declared.calls.Noted.{Noted}
+use Rattle.bay_core.specs.Noted.{entry_in, after, entries}
+use Rattle.bay_core.specs.History.{own, GoesOn}
+use Rattle.bay_core.proofs.OwnCalls.{own_same, own_other}
+use Rattle.room_history.specs.Merging.{of_caller}
+use Rattle.room_trial.specs.Scripts.{told}
+
+of_same : (c : ℕ) (e : Entry) → e.who ≡ c → of_caller c (e ∷ []) ≡ e ∷ []
+of_same c e is = ap (λ b. cond b (e ∷ []) []) (eq-eqb e.who c is)
+
+of_other : (c : ℕ) (e : Entry) → e.who ≢ c → of_caller c (e ∷ []) ≡ []
+of_other c e not = ap (λ b. cond b (e ∷ []) []) (ne_eqb e.who c not)
+
+-- one call more
+told_step : (c : ℕ) (n : Noted) (h : List Noted)
+    → told c (n ∷ h) ≡ told c h ++ of_caller c (entry_in (after h) n ∷ [])
+told_step c n h =
+    let e = entry_in (after h) n in
+    ap (of_caller c) (reverse-append (e ∷ []) (entries h))
+    ∙ filter-append (λ d. eqb d.who c) (reverse (entries h)) (e ∷ [])
+
+-- of this caller
+told_own : (c : ℕ) (n : Noted) (h : List Noted) → n.who ≡ c
+    → told c (n ∷ h) ≡ told c h ++ entry_in (after h) n ∷ []
+told_own c n h is =
+    told_step c n h ∙ ap (λ es. told c h ++ es) (of_same c (entry_in (after h) n) is)
+
+-- of another
+told_other : (c : ℕ) (n : Noted) (h : List Noted) → n.who ≢ c → told c (n ∷ h) ≡ told c h
+told_other c n h not =
+    told_step c n h
+    ∙ (ap (λ es. told c h ++ es) (of_other c (entry_in (after h) n) not) ∙ append-nil (told c h))
+
+-- a longer history has no fewer of the caller's calls
+own_grows : (c : ℕ) (more past : List Noted) → length (own c past) ≤ length (own c (more ++ past))
+own_grows c [] past = omega arith
+own_grows c (n ∷ more) past =
+    let rest = own_grows c more past in
+    elim (cases_eq n.who c) [
+      | inl is ↦ omega (arith, rest, ap length (own_same n (more ++ past) c is))
+      | inr not ↦ omega (arith, rest, ap length (own_other n (more ++ past) c not))
+    ]
+
+-- while the caller makes no call, its calls tell the same
+told_still : (c : ℕ) (more past : List Noted) → own c (more ++ past) ≡ own c past
+    → told c (more ++ past) ≡ told c past
+told_still c [] past same = refl
+told_still c (n ∷ more) past same = elim (cases_eq n.who c) [
+  | inl is ↦ absurd (omega (
+    arith,
+    own_grows c more past,
+    ap length (own_same n (more ++ past) c is),
+    ap length same,
+  ))
+  | inr not ↦ told_other c n (more ++ past) not
+      ∙ told_still c more past (sym (own_other n (more ++ past) c not) ∙ same)
+]
+
+pub told_same : (c : ℕ) (h past : List Noted) → GoesOn h past → own c h ≡ own c past
+    → told c h ≡ told c past
+told_same c h past on same =
+    let is : h ≡ on.0 ++ past = on.1 in
+    ap (told c) is ∙ told_still c on.0 past (sym (ap (own c) is) ∙ same)
+
+-- with the caller's next call, they tell its entry too
+pub told_more : (c : ℕ) (n : Noted) (h past mine : List Noted) → GoesOn h past → n.who ≡ c
+    → mine ≡ own c past → n ∷ mine ≡ own c (n ∷ h)
+    → told c (n ∷ h) ≡ told c past ++ entry_in (after h) n ∷ []
+told_more c n h past mine on is before now =
+    let both : n ∷ mine ≡ n ∷ own c h = now ∙ own_same n h c is in
+    let tail : mine ≡ own c h = cc in
+    let same : own c h ≡ own c past = sym tail ∙ before in
+    told_own c n h is ∙ ap (λ es. es ++ entry_in (after h) n ∷ []) (told_same c h past on same)
+
+pub goes_further : (newest middle oldest : List Noted) → GoesOn newest middle → GoesOn middle oldest
+    → GoesOn newest oldest
+goes_further newest middle oldest a b =
+    (a.0 ++ b.0, a.1 ∙ (ap (λ m. a.0 ++ m) b.1 ∙ sym (append_assoc a.0 b.0 oldest)))

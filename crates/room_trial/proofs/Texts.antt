@@ -1,0 +1,89 @@
+-- The printed lines are those of the history.
+use Rattle.std.proofs.Common.{◌≡◌, ℕ, zero, suc, ◌+◌, ◌<◌, ◌≤◌, List, [], ◌∷◌, ◌++◌, length, map, get_or, refl, sym, ap, ◌∙◌, subst, arith}
+use Rattle.std.specs.Prelude.{All, IfOk, Ok, Err}
+use Rattle.std.specs.declared.result.Result.{Result}
+use Rattle.std.specs.declared.alloc.AllocError.{AllocError}
+use Rattle.std.specs.List.{flat_map, range_with_len}
+use Rattle.std.specs.Global.{Vec}
+use Rattle.std.proofs.lemmas.Grind.{flat_map-append}
+use Rattle.std.proofs.lemmas.List.{append-nil, get_or-map}
+use Rattle.std.proofs.lemmas.List.Concat.{flat_map-cons}
+use Rattle.std.proofs.lemmas.List.Folds.{flat_map-map}
+use Rattle.std.proofs.lemmas.List.FromFn.{map-range_with_len_more}
+use Rattle.bay_core.specs.declared.calls.Entry.{Entry}
+use Rattle.bay_core.specs.Contents.{Contents, empty}
+use Rattle.bay_core.specs.Replay.{Replays}
+use Rattle.room_history.specs.Merging.{of_caller, AreOwn}
+use Rattle.room_history.specs.Prints.{entry_line, state_text}
+use Rattle.room_script.specs.declared.trials.Line.{Line}
+use Rattle.room_script.specs.Trials.{Outline}
+use Rattle.room_trial.specs.Histories.{script_of, AreOfOneBay, IsMerged, IsTrialHistory, AreAnswers}
+use Rattle.room_trial.specs.Texts.{answered_line, answered_below, answered_text, trial_text, IsTrialText}
+
+-- lines that are the same at each number of a range are the same
+same_lines : (f g : ℕ → List ℕ) (a n : ℕ) → ((c : ℕ) → a ≤ c → c < a + n → f c ≡ g c)
+    → flat_map f (range_with_len a n) ≡ flat_map g (range_with_len a n)
+same_lines f g a zero same = refl
+same_lines f g a (suc n) same =
+    flat_map-cons f a (range_with_len (a + 1) n)
+    ∙ (ap (λ x. x ++ flat_map f (range_with_len (a + 1) n)) (same a (omega arith) (omega arith))
+    ∙ (ap (λ x. g a ++ x) (same_lines f g (a + 1) n (λ c low high. same c (omega (arith, low)) (omega (arith, high))))
+    ∙ sym (flat_map-cons g a (range_with_len (a + 1) n))))
+
+-- the callers' lines, by their lists and by the history
+answered_same : (o : Outline) (lists : List (List Entry)) (es : List Entry) → AreOwn lists es
+    → length lists ≡ length o.scripts → answered_below lists o.scripts (length o.scripts) ≡ answered_text o es
+answered_same o lists es own many =
+    same_lines
+    (λ c. answered_line c (length (get_or lists c [])) (length (script_of o c)))
+    (λ c. answered_line c (length (of_caller c es)) (length (script_of o c)))
+    0 (length o.scripts)
+    (λ c low high. ap (λ k. answered_line c (length k) (length (script_of o c))) (own.own c (omega (arith, high, many))))
+
+-- the text of a trial, from what its callers brought back
+pub trial_told : (o : Outline) (lists : List (List Entry)) (es : List Entry) (left : Contents) (text : List ℕ)
+    → AreOfOneBay o lists → IsMerged o lists es → Replays o.layout o.blocks empty es left
+    → text ≡ flat_map entry_line es ++ (answered_below lists o.scripts (length o.scripts) ++ state_text left)
+    → IsTrialText o text
+trial_told o lists es left text bay merged replays printed = record {
+  history = es;
+  left = left;
+  is_history = record {
+    legal = record { replays = replays; ordered = merged.legal.1.ordered };
+    roomed = merged.roomed;
+    callers = subst (λ (n : ℕ). All (λ e. e.who < n) es) bay.many merged.own.callers;
+    answers = λ c within.
+        subst (AreAnswers o c) (merged.own.own c (omega (arith, within, bay.many))) (bay.answers c within);
+  };
+  printed = printed
+      ∙ ap (λ lines. flat_map entry_line es ++ (lines ++ state_text left)) (answered_same o lists es merged.own bay.many);
+}
+
+-- the lines of one caller more
+pub one_line_more : (lists : List (List Entry)) (scripts : List (List Line)) (n : ℕ)
+    → answered_below lists scripts (n + 1)
+    ≡ answered_below lists scripts n ++ answered_line n (length (get_or lists n [])) (length (get_or scripts n []))
+one_line_more lists scripts n =
+    let f : ℕ → List ℕ = λ c. answered_line c (length (get_or lists c [])) (length (get_or scripts c [])) in
+    let whole : List (List ℕ) → List ℕ = flat_map (λ x. x) in
+    let so_far = range_with_len 0 n in
+    sym (flat_map-map (λ x. x) f (range_with_len 0 (n + 1)))
+    ∙ (ap whole (map-range_with_len_more f 0 n n (omega arith))
+    ∙ (flat_map-append (λ x. x) (map f so_far) (f n ∷ [])
+    ∙ (ap (λ x. x ++ whole (f n ∷ [])) (flat_map-map (λ x. x) f so_far)
+    ∙ ap (λ x. flat_map f so_far ++ x) (flat_map-cons (λ x. x) (f n) [] ∙ append-nil (f n)))))
+
+-- a number of items that was read off a list of vectors
+pub read_length : {A : Type 0} (lists : List (Vec A)) (i k : ℕ) (d : Vec A) → i < length lists
+    → k ≡ length (get_or lists i d).items → k ≡ length (get_or (map (λ list. list.items) lists) i [])
+read_length lists i k d within is =
+    is ∙ ap (λ l. length l) (sym (get_or-map (λ (list : Vec _). list.items) lists i d [] within))
+
+-- if there was memory for it
+pub trial_printed : (o : Outline) (lists : List (List Entry)) (es : List Entry) (left : Contents)
+    (text : Result (Vec ℕ) AllocError)
+    → AreOfOneBay o lists → IsMerged o lists es → Replays o.layout o.blocks empty es left
+    → IfOk text (λ t. t.items ≡ flat_map entry_line es ++ (answered_below lists o.scripts (length o.scripts) ++ state_text left))
+    → IfOk text (λ t. IsTrialText o t.items)
+trial_printed o lists es left (Ok t) bay merged replays printed = trial_told o lists es left t.items bay merged replays printed
+trial_printed o lists es left (Err e) bay merged replays printed = tt

@@ -1,0 +1,197 @@
+-- What the callers of a trial bring back is of one bay.
+use Rattle.std.proofs.Common.{◌≡◌, ℕ, zero, suc, ◌+◌, ◌-◌, ◌<◌, ◌≤◌, List, [], ◌∷◌, length, map, take, get_or, reverse, refl, sym, ap, ◌∙◌, subst, arith}
+use Rattle.std.specs.Prelude.{slice_index_or, IfOk, Ok, All}
+use Rattle.std.specs.List.{AllByRecursion}
+use Rattle.std.specs.declared.result.Result.{Result}
+use Rattle.std.specs.Global.{Vec}
+use Rattle.std.specs.declared.alloc.AllocError.{AllocError}
+use mathlib.Core.List.{reverse_aux}
+use Rattle.std.proofs.lemmas.List.{length-map}
+use Rattle.std.proofs.lemmas.List.Elements.{All-from_recursion}
+use Rattle.atomic_table.specs.Seated.{TableId}
+use Rattle.room_rule.specs.Use.{IsAt}
+use Rattle.room_gate.specs.Shows.{Caller, newcomer}
+use Rattle.room_gate.specs.Making.{ArePasses}
+use Rattle.room_gate.specs.Closing.{AreAll}
+use Rattle.bay_core.specs.declared.calls.Layout.{Layout}
+use Rattle.bay_core.specs.declared.calls.Layout.TheVariants.{Split}
+use Rattle.bay_core.specs.declared.calls.Entry.{Entry}
+use Rattle.bay_core.specs.declared.calls.Noted.{Noted}
+use Rattle.bay_core.specs.Noted.{entries}
+use Rattle.bay_core.specs.History.{IsHistory, own}
+use Rattle.bay_rule.specs.Views.{fresh_view}
+use Rattle.bay_rule.specs.declared.views.BayView.{BayView}
+use Rattle.bay_store.specs.Closing.{IsClosed}
+use Rattle.bay_store.specs.declared.closes.Closed.{Closed}
+use Rattle.room_script.specs.declared.trials.Line.{Line}
+use Rattle.room_script.specs.declared.trials.Trial.{Trial}
+use Rattle.room_script.specs.Trials.{Outline, outline_of}
+use Rattle.room_trial.specs.Scripts.{asked, called, told}
+use Rattle.room_trial.specs.Callers.{Answers}
+use Rattle.room_trial.specs.Crews.{IsReady, EndsWell, EachGives}
+use Rattle.room_trial.specs.Histories.{script_of, AreAnswers, AreOfOneBay}
+use Rattle.room_trial.specs.declared.callers.CallerEnd.{CallerEnd}
+use Rattle.room_trial.proofs.Places.{there, below, read_at, at_read, at_map, one_at}
+use Rattle.room_trial.proofs.Telling.{told_same}
+
+abbrev pub Fresh : TableId → ℕ → ℕ → List (Caller BayView) → Type 0
+Fresh site limit callers passes = ArePasses site limit (λ who. fresh_view 1) callers passes
+
+-- the new pass of a caller
+abbrev new_pass : TableId → ℕ → ℕ → Caller BayView
+new_pass site limit who = newcomer site limit (λ w. fresh_view 1) who
+
+-- the new passes may call
+pub ready : (site : TableId) (limit callers : ℕ) (passes : List (Caller BayView))
+    → Fresh site limit callers passes → (i : ℕ) (p : Caller BayView) → i < length passes
+    → p ≡ slice_index_or passes i p → IsReady site callers p
+ready site limit callers passes are i p h is =
+    let at : IsAt passes i p = subst (λ (z : Caller BayView). IsAt passes i z) (sym is) (at_read passes i p h) in
+    subst (λ (z : Caller BayView). IsReady site callers z) (sym (are.each i p at)) (record {
+      own = refl;
+      who = omega (arith, h, are.long);
+      share = omega arith;
+    })
+
+-- only one layout is there
+split_alone : (l : Layout) → l ≡ Split
+split_alone Split = refl
+
+all_back_to_front : {A : Type 0} (P : A → Type 0) (xs ys : List A) → AllByRecursion P xs → AllByRecursion P ys
+    → AllByRecursion P (reverse_aux xs ys)
+all_back_to_front P [] ys h k = k
+all_back_to_front P (x ∷ xs) ys h k = all_back_to_front P xs (x ∷ ys) h.1 (h.0, k)
+
+-- the entries of calls of callers below a number
+of_callers_below : (n : ℕ) (h : List Noted) → ((j : ℕ) (m : Noted) → IsAt h j m → m.who < n)
+    → AllByRecursion (λ e. e.who < n) (entries h)
+of_callers_below n [] each = tt
+of_callers_below n (m ∷ h) each = (each 0 m refl, of_callers_below n h (λ j k at. each (suc j) k at))
+
+-- what came back of a trial's callers
+pub record Came (site : TableId) (o : Outline) (passes back : List (Caller BayView)) (ends : List CallerEnd)
+    (lists : List (Vec Entry)) : Type 0 where
+  pub fresh : Fresh site o.draws (length o.scripts) passes
+  pub same : length ends ≡ length passes
+  pub each : EachGives (EndsWell o.scripts) passes ends
+  pub parted_passes : back ≡ map (λ end. end.pass) ends
+  pub parted_entries : map (λ list. Ok list) lists ≡ map (λ end. end.entries) ends
+
+pub came_so : (site : TableId) (trial : Trial) (callers : ℕ) (scripts : List (Vec Line))
+    (passes back : List (Caller BayView)) (ends : List CallerEnd) (lists : List (Vec Entry))
+    → scripts ≡ trial.scripts.items → callers ≡ length trial.scripts.items
+    → Fresh site trial.draws callers passes → length ends ≡ length passes
+    → EachGives (λ p e. EndsWell (map (λ script. script.items) scripts) p e) passes ends
+    → back ≡ map (λ end. end.pass) ends
+    → map (λ list. Ok list) lists ≡ map (λ end. end.entries) ends
+    → Came site (outline_of trial) passes back ends lists
+came_so site trial callers scripts passes back ends lists read many fresh same each parted_passes parted_entries = record {
+  fresh = subst (λ (n : ℕ). Fresh site trial.draws n passes)
+      (many ∙ sym (length-map trial.scripts.items (λ (script : Vec Line). script.items))) fresh;
+  same = same;
+  each = subst (λ (l : List (Vec Line)). EachGives (λ p e. EndsWell (map (λ script. script.items) l) p e) passes ends) read each;
+  parted_passes = parted_passes;
+  parted_entries = parted_entries;
+}
+
+-- a list for which there was memory
+abbrev some_list : Vec Entry → Result (Vec Entry) AllocError
+some_list list = Ok list
+
+module _ (site : TableId) (o : Outline) (passes back : List (Caller BayView)) (ends : List CallerEnd) (lists : List (Vec Entry))
+    (all : Came site o passes back ends lists) where
+  abbrev callers : ℕ
+  callers = length o.scripts
+
+  long_back : length back ≡ callers
+  long_back = ap length all.parted_passes ∙ (length-map ends (λ (end : CallerEnd). end.pass) ∙ (all.same ∙ all.fresh.long))
+
+  long_lists : length lists ≡ callers
+  long_lists =
+      sym (length-map lists (λ (list : Vec Entry). some_list list))
+      ∙ (ap length all.parted_entries
+      ∙ (length-map ends (λ (end : CallerEnd). end.entries) ∙ (all.same ∙ all.fresh.long)))
+
+  -- what each caller did
+  ended : (i : ℕ) (e : CallerEnd) (es : Vec Entry) → IsAt ends i e → IsAt lists i es
+      → Answers (script_of o i) (new_pass site o.draws i) e.pass es.items
+  ended i e es at its =
+      let within : i < length passes = omega (arith, below ends i e at, all.same) in
+      let p = there passes i within in
+      let found : e.entries ≡ Ok es = one_at (map (λ end. end.entries) ends) i e.entries (Ok es)
+      (at_map (λ (end : CallerEnd). end.entries) ends i e at)
+      (subst (λ (l : List (Result (Vec Entry) AllocError)). IsAt l i (Ok es)) all.parted_entries
+      (at_map (λ (list : Vec Entry). Ok list) lists i es its)) in
+      let well : EndsWell o.scripts p.0 e =
+      subst (λ (z : Caller BayView × CallerEnd). EndsWell o.scripts z.0 z.1)
+      (λ k. (read_at passes i p.0 p.0 p.1 k, read_at ends i e e at k)) (all.each i p.0 e within) in
+      let mine : Answers (script_of o p.0.who) p.0 e.pass es.items =
+      subst (λ (r : Result (Vec Entry) AllocError). IfOk r (λ v. Answers (script_of o p.0.who) p.0 e.pass v.items)) found well in
+      subst (λ (z : Caller BayView). Answers (script_of o z.who) z e.pass es.items) (all.fresh.each i p.0 p.1) mine
+
+  -- whose pass came back
+  came : (i : ℕ) (p : Caller BayView) → IsAt back i p
+      → (es : Vec Entry) × IsAt lists i es × Answers (script_of o i) (new_pass site o.draws i) p es.items
+  came i p at =
+      let within : i < length ends = omega (arith, below back i p at, long_back, all.same, all.fresh.long) in
+      let e = there ends i within in
+      let its : p ≡ e.0.pass = one_at back i p e.0.pass at
+      (subst (λ (l : List (Caller BayView)). IsAt l i e.0.pass) (sym all.parted_passes)
+      (at_map (λ (end : CallerEnd). end.pass) ends i e.0 e.1)) in
+      let es = there lists i (omega (arith, within, all.same, all.fresh.long, long_lists)) in
+      (es.0, es.1, subst (λ (z : Caller BayView). Answers (script_of o i) (new_pass site o.draws i) z es.0.items) (sym its) (ended i e.0 es.0 e.1 es.1))
+
+  -- each pass is of its caller
+  its_own : (i : ℕ) (p : Caller BayView) → IsAt back i p → (p.site ≡ site) × (p.who ≡ i)
+  its_own i p at =
+      let did = (came i p at).2 in
+      (ap (λ (c : Caller BayView). c.site) did.same, ap (λ (c : Caller BayView). c.who) did.same)
+
+  -- the passes that came back are those of all callers
+  pub all_back : AreAll site callers back
+  all_back = record {
+    many = long_back;
+    own = λ i p at. (its_own i p at).0;
+    once = λ i j p q at bt is. sym (its_own i p at).1 ∙ (is ∙ (its_own j q bt).1);
+  }
+
+  module _ (closed : Closed) (is : IsClosed o.blocks callers back closed) where
+    -- the list of a caller has its entries in the history
+    its_entries : (i : ℕ) (es : Vec Entry) → i < callers → IsAt lists i es
+        → (es.items ≡ told i is.history) × AreAnswers o i es.items
+    its_entries i es within at =
+        let p = there back i (omega (arith, within, long_back)) in
+        let of = came i p.0 p.1 in
+        let one : of.0 ≡ es = one_at lists i of.0 es of.1 at in
+        let did : Answers (script_of o i) (new_pass site o.draws i) p.0 es.items =
+        subst (λ (v : Vec Entry). Answers (script_of o i) (new_pass site o.draws i) p.0 v.items) one of.2 in
+        let who : p.0.who ≡ i = (its_own i p.0 p.1).1 in
+        let whole : own i is.history ≡ own i p.0.user.seen =
+        ap (λ w. own w is.history) (sym who) ∙ (sym (is.mine i p.0 p.1) ∙ did.mine) in (
+          sym did.entries ∙ sym (told_same i is.history p.0.user.seen (is.seen i p.0 p.1) whole),
+          did.answered ∙ ap (λ n. take n (map asked (script_of o i))) (omega arith),
+        )
+
+    pub of_one_bay : AreOfOneBay o (map (λ list. list.items) lists)
+    of_one_bay = record {
+      history = is.history;
+      legal = subst (λ (l : Layout). IsHistory l o.blocks is.history) (sym (split_alone o.layout)) is.legal;
+      own = record {
+        own = λ i within.
+            let fits : i < callers = omega (arith, within, length-map lists (λ (list : Vec Entry). list.items), long_lists) in
+            let es = there lists i (omega (arith, fits, long_lists)) in
+            read_at (map (λ list. list.items) lists) i es.0.items [] (at_map (λ (list : Vec Entry). list.items) lists i es.0 es.1)
+            ∙ (its_entries i es.0 fits es.1).0;
+        callers = All-from_recursion (λ e. e.who < length (map (λ list. list.items) lists)) (reverse (entries is.history))
+            (all_back_to_front (λ (e : Entry). e.who < length (map (λ list. list.items) lists)) (entries is.history) []
+            (of_callers_below (length (map (λ list. list.items) lists)) is.history (λ j n at.
+            let of = is.calls j n at in
+            omega (arith, of.3, is.numbers of.0 of.1 of.2, length-map lists (λ (list : Vec Entry). list.items), long_lists))) tt);
+      };
+      many = length-map lists (λ (list : Vec Entry). list.items) ∙ long_lists;
+      answers = λ i within.
+          let es = there lists i (omega (arith, within, long_lists)) in
+          let read : get_or (map (λ list. list.items) lists) i [] ≡ es.0.items =
+          read_at (map (λ list. list.items) lists) i es.0.items [] (at_map (λ (list : Vec Entry). list.items) lists i es.0 es.1) in
+          subst (AreAnswers o i) (sym read) (its_entries i es.0 within es.1).1;
+    }

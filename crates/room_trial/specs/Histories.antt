@@ -1,0 +1,43 @@
+-- The history of a trial.
+use Rattle.std.specs.Prelude.{◌≡◌, ℕ, ◌<◌, List, [], length, map, take, slice_index_or, All, reverse}
+use Rattle.bay_core.specs.declared.calls.Entry.{Entry}
+use Rattle.bay_core.specs.declared.calls.Noted.{Noted}
+use Rattle.bay_core.specs.Contents.{Contents}
+use Rattle.bay_core.specs.Noted.{entries}
+use Rattle.bay_core.specs.History.{IsHistory}
+use Rattle.bay_core.specs.Legal.{IsLegal, IsRoomed}
+use Rattle.room_history.specs.Merging.{of_caller, AreOwn}
+use Rattle.room_script.specs.declared.trials.Line.{Line}
+use Rattle.room_script.specs.Trials.{Outline}
+use Rattle.room_trial.specs.Scripts.{asked, called}
+
+-- the script of a caller
+abbrev pub script_of : Outline → ℕ → List Line
+script_of o caller = slice_index_or o.scripts caller []
+
+-- the entries are of the first lines of a caller's script, in order, each once: of all for which the
+-- caller had a draw
+abbrev pub AreAnswers : Outline → ℕ → List Entry → Type 0
+AreAnswers o caller es = map called es ≡ take o.draws (map asked (script_of o caller))
+
+-- The entries of a trial are one history, legal and roomed, which leaves s. It has each caller's
+-- answers, and nothing else.
+pub record IsTrialHistory (o : Outline) (es : List Entry) (s : Contents) : Type 0 where
+  pub legal : IsLegal o.layout o.blocks es s
+  pub roomed : IsRoomed es
+  pub callers : All (λ e. e.who < length o.scripts) es
+  pub answers : (caller : ℕ) → caller < length o.scripts → AreAnswers o caller (of_caller caller es)
+
+-- the lists are the callers' own entries of one bay's history, caller by caller
+pub record AreOfOneBay (o : Outline) (lists : List (List Entry)) : Type 0 where
+  pub history : List Noted
+  pub legal : IsHistory o.layout o.blocks history
+  pub own : AreOwn lists (reverse (entries history))
+  pub many : length lists ≡ length o.scripts
+  pub answers : (caller : ℕ) → caller < length o.scripts → AreAnswers o caller (slice_index_or lists caller [])
+
+-- the entries are the callers' own in one legal and roomed history
+pub record IsMerged (o : Outline) (lists : List (List Entry)) (es : List Entry) : Type 0 where
+  pub legal : (left : Contents) × IsLegal o.layout o.blocks es left
+  pub roomed : IsRoomed es
+  pub own : AreOwn lists es

@@ -1,0 +1,37 @@
+-- The lines of a script and the entries of their calls.
+use Rattle.std.specs.Prelude.{ℕ, List, reverse}
+use Rattle.std.specs.List.{sum_by}
+use Rattle.bay_core.specs.declared.calls.Op.{Op}
+use Rattle.bay_core.specs.declared.calls.Op.TheVariants as ops
+use Rattle.bay_core.specs.declared.calls.Reply.{Reply}
+use Rattle.bay_core.specs.declared.calls.Reply.TheVariants.{Item}
+use Rattle.bay_core.specs.declared.calls.Entry.{Entry}
+use Rattle.bay_core.specs.declared.calls.Noted.{Noted}
+use Rattle.bay_core.specs.Noted.{entries}
+use Rattle.room_history.specs.Merging.{of_caller}
+use Rattle.room_script.specs.declared.trials.Line.{Line}
+use Rattle.room_script.specs.declared.trials.Line.TheVariants.{Push, Pop, Enq, Deq}
+
+-- the operation that a line asks for, and its item, which is 0 where it takes one
+abbrev pub asked : Line → Op × ℕ
+asked (Push item) = (ops.Push, item)
+asked Pop = (ops.Pop, 0)
+asked (Enq item) = (ops.Enq, item)
+asked Deq = (ops.Deq, 0)
+
+-- those of an entry
+abbrev pub called : Entry → Op × ℕ
+called e = (e.op, e.arg)
+
+-- how many items a call with this reply took
+abbrev pub taken_of : Reply → ℕ
+taken_of (Item item) = 1
+taken_of _ = 0
+
+-- how many the calls of these entries took
+abbrev pub items_taken : List Entry → ℕ
+items_taken es = sum_by (λ e. taken_of e.reply) es
+
+-- the entries of a caller's own calls in a history, in their order
+abbrev pub told : ℕ → List Noted → List Entry
+told who history = of_caller who (reverse (entries history))

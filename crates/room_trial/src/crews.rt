@@ -1,0 +1,95 @@
+//! The callers of a trial, each in a thread of its own.
+ghost use Rattle.std.specs.Prelude.{◌≡◌, ℕ, ◌<◌, length, map, vec_len, slice_index_or, Ok, IfOk};
+ghost use Rattle.room_script.specs.Trials.{outline_of, IsWithin};
+ghost use Rattle.room_trial.specs.Crews.{IsReady, EndsWell, EachGives};
+ghost use Rattle.room_trial.specs.Histories.{AreOfOneBay};
+
+use crate::callers::{CallerEnd, trial_caller};
+use bay_core::Entry;
+use bay_store::{Bay, BayPass};
+use room_script::{Line, Trial};
+use std::alloc::{AllocError, Global};
+use std::sync::Wait;
+use std::thread;
+use std::thread::Threads;
+use work_pool::Gate;
+
+// The passes of all callers and their entries, in the same order.
+#[derive(Drop)]
+struct Parts {
+    passes: Vec<BayPass>,
+    entries: Vec<Vec<Entry>>,
+}
+
+// One caller, with its script among those of all.
+fn one<R: Wait, G: Gate>(
+    rt: &R,
+    alloc: Global,
+    bay: &Bay,
+    pass: BayPass,
+    scripts: &[Vec<Line>],
+    gate: &G,
+) -> CallerEnd
+    requires { IsReady bay.now.site (length scripts.now) pass }
+    ensures { EndsWell (map (λ script. script.items) scripts.now) pass result }
+{
+    let script = &scripts[pass.who() as usize];
+    trial_caller(rt, alloc, bay, pass, script, gate)
+}
+
+// All callers, each in a thread.
+fn in_threads<R: Threads + Wait + Sync, G: Gate + Sync>(
+    rt: &R,
+    alloc: Global,
+    bay: &Bay,
+    passes: Vec<BayPass>,
+    scripts: &[Vec<Line>],
+    gate: &G,
+) -> Result<Vec<CallerEnd>, AllocError>
+    requires { (i : ℕ) (p : _) → i < vec_len passes → p ≡ slice_index_or passes.items i p → IsReady bay.now.site (length scripts.now) p }
+    ensures len { IfOk result (λ ends. vec_len ends ≡ vec_len passes) }
+    ensures each { IfOk result (λ ends. EachGives (λ p e. EndsWell (map (λ script. script.items) scripts.now) p e) passes.items ends.items) }
+{
+    thread::map_vec(
+        rt,
+        passes,
+        &|pass| { one(rt, alloc, bay, pass, scripts, gate) },
+    )
+}
+
+// Parts the passes from the entries, if each caller found memory for its entries.
+fn parted(alloc: Global, ends: Vec<CallerEnd>) -> Result<Parts, AllocError>
+    ensures passes { IfOk result (λ parts. parts.passes.items ≡ map (λ end. end.pass) ends.items) }
+    ensures entries { IfOk result (λ parts. map (λ list. Ok list) parts.entries.items ≡ map (λ end. end.entries) ends.items) }
+{
+    let mut parts = Parts {
+        passes: Vec::new(alloc),
+        entries: Vec::new(alloc),
+    };
+    for CallerEnd { pass, entries } in ends {
+        parts.passes.push(pass)?;
+        parts.entries.push(entries?)?;
+    }
+    Ok(parts)
+}
+
+// Sets up the bay of a trial, has its callers make their calls, and closes it. The answer has each
+// caller's entries in their order.
+pub(crate) fn entries_of_callers<R: Threads + Wait + Sync, G: Gate + Sync>(
+    rt: &R,
+    alloc: Global,
+    trial: &Trial,
+    gate: &G,
+) -> Result<Vec<Vec<Entry>>, AllocError>
+    requires { IsWithin (outline_of trial.now) }
+    ensures { IfOk result (λ lists. AreOfOneBay (outline_of trial.now) (map (λ list. list.items) lists.items)) }
+{
+    let callers = trial.scripts.len() as u32;
+    let (bay, passes) = Bay::set_up(alloc, trial.layout, trial.blocks, callers, trial.draws)?;
+    let ends = in_threads(rt, alloc, &bay, passes, &trial.scripts, gate)?;
+    let Parts { passes, entries } = parted(alloc, ends)?;
+    match bay.close(alloc, passes) {
+        Ok(_) => Ok(entries),
+        Err(_) => Err(AllocError),
+    }
+}

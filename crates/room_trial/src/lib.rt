@@ -1,0 +1,16 @@
+//! Trials: callers of one bay that each make the calls of a script, each in a thread of its own, and
+//! their one history in print.
+#![tactic(auto)]
+
+mod callers;
+mod crews;
+mod histories;
+mod line_calls;
+mod printing;
+mod trials;
+
+pub use callers::{CallerEnd, trial_caller};
+pub use trials::trial;
+
+#[cfg(test)]
+mod tests;

@@ -1,0 +1,62 @@
+//! The call of one line.
+ghost use Rattle.std.specs.Prelude.{◌≡◌, ◌≤◌};
+ghost use Rattle.bay_store.specs.Calls.{CallGives};
+ghost use Rattle.room_trial.specs.Scripts.{asked};
+ghost use Rattle.room_trial.specs.Receipts.{put_receipt, take_receipt};
+
+use bay_store::{Bay, BayPass, Popped, Pushed, Receipt};
+use room_script::Line;
+use std::sync::Wait;
+
+// Makes the call of a line. There is no receipt where the pass had made its last draw.
+pub(crate) fn call<R: Wait>(
+    rt: &R,
+    bay: &Bay,
+    pass: BayPass,
+    line: Line,
+) -> (BayPass, Option<Receipt>)
+    requires own { pass.site ≡ bay.now.site }
+    requires share { 1 ≤ pass.user.held }
+    ensures gives { CallGives bay.now.usage.blocks (asked line).0 (asked line).1 pass result.0 result.1 }
+    ensures same_bay { result.0.site ≡ pass.site }
+    ensures share { 1 ≤ result.0.user.held }
+{
+    match line {
+        Line::Push(item) => {
+            let (pass, pushed) = bay.push(rt, pass, item);
+            (pass, stored(pushed))
+        }
+        Line::Pop => {
+            let (pass, popped) = bay.pop(rt, pass);
+            (pass, taken(popped))
+        }
+        Line::Enq(item) => {
+            let (pass, pushed) = bay.enqueue(rt, pass, item);
+            (pass, stored(pushed))
+        }
+        Line::Deq => {
+            let (pass, popped) = bay.dequeue(rt, pass);
+            (pass, taken(popped))
+        }
+    }
+}
+
+// The receipt of a push or an enqueue.
+fn stored(pushed: Pushed) -> Option<Receipt>
+    ensures { result ≡ put_receipt pushed }
+{
+    match pushed {
+        Pushed::Stored(receipt) | Pushed::Full(receipt) => Some(receipt),
+        Pushed::Spent => None,
+    }
+}
+
+// The receipt of a pop or a dequeue.
+fn taken(popped: Popped) -> Option<Receipt>
+    ensures { result ≡ take_receipt popped }
+{
+    match popped {
+        Popped::Item(_, receipt) | Popped::Empty(receipt) => Some(receipt),
+        Popped::Spent => None,
+    }
+}

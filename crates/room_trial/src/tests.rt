@@ -1,0 +1,33 @@
+//! Whole trials, from their texts to what they print.
+use crate::trial;
+use room_script::read_trial;
+use std::test::Fail;
+use work_pool::OpenGate;
+
+#[test]
+fn a_trial_prints_its_history_and_what_is_left(rt: HostRuntime) -> Result<(), Fail> {
+    let cases = [
+        (
+            "trial 1\nlayout split\nblocks 1\ndraws 100\ncaller\npop\npush 5\npush 5\npop\npop\npop\n",
+            "1 4294967296 0 pop - empty\n2 4294967296 0 push 5 ok\n3 4294967297 0 push 5 ok\n4 4294967294 0 pop - 5\n5 4294967295 0 pop - 5\n6 4294967296 0 pop - empty\ncaller 0 answered 6 of 6\nstack\nqueue\n",
+        ),
+        (
+            "trial 1\nlayout split\nblocks 1\ndraws 2\ncaller\npush 1\npop\npop\n",
+            "1 4294967296 0 push 1 ok\n2 4294967295 0 pop - 1\ncaller 0 answered 2 of 3\nstack\nqueue\n",
+        ),
+        (
+            "trial 1\nlayout split\nblocks 1\ndraws 1\ncaller\n",
+            "caller 0 answered 0 of 0\nstack\nqueue\n",
+        ),
+        (
+            "trial 1\nlayout split\nblocks 1\ndraws 9\ncaller\nenq 3\npush 4\nenq 5\ndeq\ndeq\ndeq\nenq 6\n",
+            "1 0 0 enq 3 ok\n2 4294967296 0 push 4 ok\n3 1 0 enq 5 ok\n4 0 0 deq - 3\n5 1 0 deq - 5\n6 2 0 deq - empty\n7 2 0 enq 6 ok\ncaller 0 answered 7 of 7\nstack 4\nqueue 6\n",
+        ),
+    ];
+    for (text, output) in cases {
+        let script = read_trial(rt.alloc(), text.as_bytes())?;
+        let printed = trial(&rt, rt.alloc(), &script, &OpenGate)?;
+        assert_eq!(rt; printed.as_slice(), output.as_bytes());
+    }
+    Ok(())
+}

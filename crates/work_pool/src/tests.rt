@@ -1,0 +1,29 @@
+//! A gate through a parameter.
+use crate::{Gate, OpenGate};
+use std::cell::Cell;
+use std::test::Fail;
+
+// A gate that adds up what it was asked.
+struct Counts {
+    sum: Cell<u64>,
+}
+
+impl Gate for Counts {
+    fn ask(&self, worker: u32, take: u64) {
+        self.sum.set(self.sum.get().wrapping_add(10 * worker as u64 + take));
+    }
+}
+
+// Asks as caller 7 before call 3.
+fn ask_once<G: Gate>(gate: &G) {
+    gate.ask(7, 3);
+}
+
+#[test]
+fn a_gate_is_asked_with_the_caller_and_its_call(rt: HostRuntime) -> Result<(), Fail> {
+    ask_once(&OpenGate);
+    let counts = Counts { sum: Cell::new(0) };
+    ask_once(&counts);
+    assert_eq!(rt; counts.sum.get(), 73);
+    Ok(())
+}
