@@ -1,6 +1,5 @@
 -- A caller's calls of the first lines of its script.
 use Rattle.std.proofs.Common.{◌≡◌, ℕ, ◌+◌, ◌-◌, ◌<◌, ◌≤◌, List, [], ◌∷◌, ◌++◌, length, map, take, get_or, refl, sym, ap, ◌∙◌, subst, arith}
-use Rattle.std.specs.List.{sum_by}
 use Rattle.std.proofs.lemmas.List.{append-nil, append_assoc, length-append, map-append, map_more, take_all, take-map}
 use Rattle.std.proofs.lemmas.List.Sums.{sum_by-append}
 use Rattle.room_gate.specs.Shows.{Caller}

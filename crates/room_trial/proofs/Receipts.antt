@@ -1,5 +1,5 @@
 -- The answers of a bay by their receipts.
-use Rattle.std.proofs.Common.{ℕ, ◌≤◌, subst, sym, arith}
+use Rattle.std.proofs.Common.{ℕ, ◌≤◌, arith}
 use Rattle.room_gate.specs.Shows.{Caller}
 use Rattle.bay_core.specs.declared.calls.Op.{Op}
 use Rattle.bay_rule.specs.declared.views.BayView.{BayView}

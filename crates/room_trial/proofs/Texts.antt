@@ -17,8 +17,8 @@ use Rattle.room_history.specs.Merging.{of_caller, AreOwn}
 use Rattle.room_history.specs.Prints.{entry_line, state_text}
 use Rattle.room_script.specs.declared.trials.Line.{Line}
 use Rattle.room_script.specs.Trials.{Outline}
-use Rattle.room_trial.specs.Histories.{script_of, AreOfOneBay, IsMerged, IsTrialHistory, AreAnswers}
-use Rattle.room_trial.specs.Texts.{answered_line, answered_below, answered_text, trial_text, IsTrialText}
+use Rattle.room_trial.specs.Histories.{script_of, AreOfOneBay, IsMerged, AreAnswers}
+use Rattle.room_trial.specs.Texts.{answered_line, answered_below, answered_text, IsTrialText}
 
 -- lines that are the same at each number of a range are the same
 same_lines : (f g : ℕ → List ℕ) (a n : ℕ) → ((c : ℕ) → a ≤ c → c < a + n → f c ≡ g c)

@@ -1,6 +1,6 @@
 -- What the callers of a trial bring back is of one bay.
-use Rattle.std.proofs.Common.{◌≡◌, ℕ, zero, suc, ◌+◌, ◌-◌, ◌<◌, ◌≤◌, List, [], ◌∷◌, length, map, take, get_or, reverse, refl, sym, ap, ◌∙◌, subst, arith}
-use Rattle.std.specs.Prelude.{slice_index_or, IfOk, Ok, All}
+use Rattle.std.proofs.Common.{◌≡◌, ℕ, suc, ◌<◌, List, [], ◌∷◌, length, map, take, get_or, reverse, refl, sym, ap, ◌∙◌, subst, arith}
+use Rattle.std.specs.Prelude.{slice_index_or, IfOk, Ok}
 use Rattle.std.specs.List.{AllByRecursion}
 use Rattle.std.specs.declared.result.Result.{Result}
 use Rattle.std.specs.Global.{Vec}
@@ -26,7 +26,7 @@ use Rattle.bay_store.specs.declared.closes.Closed.{Closed}
 use Rattle.room_script.specs.declared.trials.Line.{Line}
 use Rattle.room_script.specs.declared.trials.Trial.{Trial}
 use Rattle.room_script.specs.Trials.{Outline, outline_of}
-use Rattle.room_trial.specs.Scripts.{asked, called, told}
+use Rattle.room_trial.specs.Scripts.{asked, told}
 use Rattle.room_trial.specs.Callers.{Answers}
 use Rattle.room_trial.specs.Crews.{IsReady, EndsWell, EachGives}
 use Rattle.room_trial.specs.Histories.{script_of, AreAnswers, AreOfOneBay}

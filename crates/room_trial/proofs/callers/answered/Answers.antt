@@ -1,5 +1,5 @@
-use Rattle.std.proofs.Common.{◌∙◌, refl, sym, subst}
-use Rattle.room_trial.proofs.Answering.{SoFar, one_more, spent}
+use Rattle.std.proofs.Common.{◌∙◌, refl}
+use Rattle.room_trial.proofs.Answering.{one_more, spent}
 use Rattle.room_trial.proofs.callers.answered.Goals as goal
 
 pub returns-in-None : goal.returns-in-None

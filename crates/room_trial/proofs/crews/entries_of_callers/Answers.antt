@@ -1,6 +1,5 @@
-use Rattle.std.proofs.Common.{◌≡◌, ℕ, length, sym, ap, ◌∙◌, subst, arith}
+use Rattle.std.proofs.Common.{◌≡◌, ℕ, length, sym, ◌∙◌, subst, arith}
 use Rattle.std.proofs.lemmas.List.{length-map}
-use Rattle.room_gate.specs.Closing.{AreAll}
 use Rattle.bay_store.specs.Closing.{IsClosed}
 use Rattle.room_script.specs.Trials.{outline_of}
 use Rattle.room_trial.proofs.Together.{ready, came_so, all_back, of_one_bay}

@@ -1,4 +1,4 @@
-use Rattle.std.proofs.Common.{◌≡◌, ◌<◌, ◌++◌, ℕ, length, map, sym, ap, ◌∙◌, arith}
+use Rattle.std.proofs.Common.{◌<◌, ◌++◌, ℕ, length, map, sym, ap, ◌∙◌, arith}
 use Rattle.room_trial.specs.Texts.{answered_line, answered_below}
 use Rattle.room_trial.proofs.Texts.{one_line_more, read_length}
 use Rattle.room_trial.proofs.printing.print_answered.Goals as goal

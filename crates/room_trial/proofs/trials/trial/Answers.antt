@@ -1,4 +1,4 @@
-use Rattle.std.proofs.Common.{map, sym}
+use Rattle.std.proofs.Common.{map}
 use Rattle.std.proofs.lemmas.List.{length-map}
 use Rattle.room_script.specs.Trials.{outline_of}
 use Rattle.room_trial.proofs.Texts.{trial_printed}
