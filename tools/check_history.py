@@ -6,6 +6,10 @@ RANK WHO OP ARG REPLY`, then lines `caller C answered K of L` if there are any, 
 and a line `queue` with the items of the lists at the end, and any lines `live N`. It prints
 `ok N entries`, or the first fault, with status 1. Each list has 32 cells for each block, of which
 --blocks says how many there are.
+
+With --trial it also reads the text of the trial whose output the history is. The number of blocks is
+the trial's then, and each caller's entries must be the first lines of its script, in order, each once:
+as many as it has lines, or draws if those are fewer.
 """
 import argparse
 import sys
@@ -107,6 +111,33 @@ def check_answered(words, calls, answered):
     answered.add(who)
 
 
+class Trial:
+    """The text of a trial: its blocks, the draws of each caller, and the callers' scripts."""
+
+    def __init__(self, text):
+        lines = text.removesuffix("\n").split("\n")
+        if lines[:2] != ["trial 1", "layout split"] or lines[4:5] != ["caller"]:
+            raise Fault("no trial of layout split")
+        self.blocks, self.draws = (number(line.split(" ")[1]) for line in lines[2:4])
+        self.scripts = []
+        for line in lines[4:]:
+            if line == "caller":
+                self.scripts.append([])
+            else:
+                self.scripts[-1].append(line)
+
+    def check(self, entries):
+        """Checks that the entries, as callers and what they called, are those of the scripts."""
+        told = [[] for _ in self.scripts]
+        for who, call in entries:
+            if who >= len(told):
+                raise Fault(f"an entry of caller {who}")
+            told[who].append(call)
+        for who, script in enumerate(self.scripts):
+            if told[who] != script[: self.draws]:
+                raise Fault(f"the entries of caller {who} are not its lines")
+
+
 def check_list(words, items):
     """Checks the line of a list at the end."""
     if [number(word) for word in words[1:]] != items:
@@ -114,10 +145,10 @@ def check_list(words, items):
 
 
 def check(lines, blocks):
-    """How many entries there are, where all lines are as they should be."""
+    """The entries, as callers and what they called, where all lines are as they should be."""
     bay, before, calls, answered, stage = Bay(blocks), None, {}, set(), 0
     stages = {"caller": 1, "stack": 2, "queue": 3, "live": 4}
-    entries = 0
+    entries = []
     for place, line in enumerate(lines, 1):
         words = line.split(" ")
         now = stages.get(words[0], 0)
@@ -127,7 +158,8 @@ def check(lines, blocks):
             stage = now
             if now == 0:
                 before = check_entry(bay, words, before, calls)
-                entries += 1
+                call = words[3] if words[4] == "-" else " ".join(words[3:5])
+                entries.append((number(words[2]), call))
             elif now == 1:
                 check_answered(words, calls, answered)
             elif now == 2:
@@ -149,6 +181,7 @@ def main():
     """Reads, checks and prints."""
     options = argparse.ArgumentParser(description="Checks the printed history of a bay.")
     options.add_argument("--blocks", type=int, default=64)
+    options.add_argument("--trial", metavar="SCRIPT", help="the text of the trial")
     options.add_argument("file", nargs="?")
     given = options.parse_args()
     if given.file:
@@ -159,7 +192,14 @@ def main():
     try:
         if not text.endswith("\n"):
             raise Fault("the last line has no end")
-        print(f"ok {check(text[:-1].split(chr(10)), given.blocks)} entries")
+        trial = None
+        if given.trial:
+            with open(given.trial, encoding="ascii") as file:
+                trial = Trial(file.read())
+        entries = check(text[:-1].split("\n"), trial.blocks if trial else given.blocks)
+        if trial:
+            trial.check(entries)
+        print(f"ok {len(entries)} entries")
     except Fault as fault:
         print(fault)
         sys.exit(1)
