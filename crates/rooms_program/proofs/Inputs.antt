@@ -1,4 +1,4 @@
--- What was read of an input that has an output.
+-- What was read of an input that is accepted.
 use Rattle.std.proofs.Common.{◌≡◌, ◌⊎◌, ℕ, ◌+◌, ◌<◌, ◌≤◌, List, length, take, IfSome, Some, None, inl, inr, sym, subst, ◌∙◌, ap, arith}
 use Rattle.std.specs.declared.option.Option.{Option}
 use Rattle.std.proofs.lemmas.List.{take_all}
@@ -8,10 +8,10 @@ use Rattle.image_reader.specs.Bytes.{IsImage}
 use Rattle.image_core.specs.Fault.{other}
 use Rattle.image_reader.proofs.Spelling.{length-spelling}
 use Rattle.image_reader.proofs.Once.{no_fault}
-use Rattle.rooms_program.specs.Commands.{most_bytes, IsOutput, Refuses}
+use Rattle.rooms_program.specs.Commands.{most_bytes, Accepts, IsOutput, Refuses}
 use Rattle.rooms_program.specs.Runs.{WasRead, IsAnswered}
 use Rattle.rooms_program.specs.declared.words.Command.{Command}
-use Rattle.rooms_program.specs.declared.words.Command.TheVariants.{Compact, Schedule}
+use Rattle.rooms_program.specs.declared.words.Command.TheVariants.{Compact, Schedule, Trial}
 use Rattle.rooms_program.specs.declared.status.Status.{Status}
 use Rattle.rooms_program.specs.declared.status.Status.TheVariants.{Good, Words, Image, ReadFault, WriteFault, Script, Act, TooLong, Memory}
 
@@ -21,36 +21,30 @@ image_size bytes heap i =
     let spells = i.spells in
     omega (arith, ap length spells.spelled_so, length-spelling heap.words heap.roots, spells.few_words, spells.few_roots)
 
--- an input that has an output is not too long
-pub output_size : (command : Command) (input output : List ℕ) → IsOutput command input output → length input ≤ most_bytes command
-output_size Compact input output o = image_size input o.heap o.image
-output_size Schedule input output o = o.few
+-- an input that is accepted is not too long
+pub accepted_size : (command : Command) (input : List ℕ) → Accepts command input → length input ≤ most_bytes command
+accepted_size Compact input a = image_size input a.0 a.1
+accepted_size Schedule input a = a.few
+accepted_size Trial input a = a.0
 
--- an input of which no more was read than can be accepted was read to its end
-pub read_to_end : (most : ℕ) (left now_left : Option (List ℕ)) (bytes : List ℕ) → WasRead most left now_left bytes → length bytes ≤ most → IsAtEnd now_left
-read_to_end most left now_left bytes w few = elim w.enough [ inl e ↦ e | inr e ↦ absurd (omega (arith, e, few)) ]
+-- an input that has an output is accepted
+output_accepted : (command : Command) (input output : List ℕ) → IsOutput command input output → Accepts command input
+output_accepted Compact input output o = (o.heap, o.image)
+output_accepted Schedule input output o = o.runnable
+output_accepted Trial input output o = (o.few, (o.outline, o.spells))
 
--- an input that is short enough is what was read of it
-pub short_read : (most : ℕ) (input bytes : List ℕ) → bytes ≡ take (most + 1) input → length input ≤ most → bytes ≡ input
-short_read most input bytes e few = e ∙ take_all (most + 1) input (omega (arith, few))
+-- an input that has an output was read to its end
+pub read_to_end : (command : Command) (left now_left : Option (List ℕ)) (bytes output : List ℕ) → WasRead (most_bytes command) left now_left bytes → IsOutput command bytes output → IsAtEnd now_left
+read_to_end command left now_left bytes output w o =
+    let few = accepted_size command bytes (output_accepted command bytes output o) in
+    elim w.enough [ inl e ↦ e | inr e ↦ absurd (omega (arith, e, few)) ]
 
--- the answer that an input gets is that of the bytes that were read of it, where they have no output
-pub answered : (A B : Type 0) (command : Command) (left : Option (List ℕ)) (bytes : List ℕ) (answer : Status)
-    → IfSome left (λ input. bytes ≡ take (most_bytes command + 1) input)
-    → ((output : List ℕ) → IsOutput command bytes output → answer ≡ Memory)
-    → ((why : Status) → Refuses command bytes why → (answer ≡ why) ⊎ (answer ≡ Memory))
-    → IfSome left (λ input. ¬ A → ¬ B → IsAnswered command input answer)
-answered A B command None bytes answer known accepts refuses = known
-answered A B command (Some input) bytes answer known accepts refuses = λ no_read no_write.
-    record {
-      accepts = λ output o.
-          let same = short_read (most_bytes command) input bytes known (output_size command input output o) in
-          let P : List ℕ → Type 0 = λ b. IsOutput command b output in
-          inr (accepts output (subst P (sym same) o));
-      refuses = λ why r.
-          let P : List ℕ → Type 0 = λ b. Refuses command b why in
-          refuses why (subst P (sym known) r);
-    }
+-- what was read of an input that is accepted is accepted
+pub read_accepted : (command : Command) (input bytes : List ℕ) → bytes ≡ take (most_bytes command + 1) input → Accepts command input → Accepts command bytes
+read_accepted command input bytes e a =
+    let few = accepted_size command input a in
+    let whole : take (most_bytes command + 1) input ≡ input = take_all (most_bytes command + 1) input (omega (arith, few)) in
+    subst (Accepts command) (sym (e ∙ whole)) a
 
 -- an image is not refused
 pub image_unrefused : (bytes : List ℕ) (heap : Heap) (why : Status) → IsImage bytes heap → Refuses Compact bytes why → ⊥

@@ -13,7 +13,8 @@ use Rattle.room_script.specs.Lines.{lines_of}
 use Rattle.room_script.specs.Breaks.{BreaksAt}
 use Rattle.room_script.specs.Schedules.{Plan, Spells, IsSchedule}
 use Rattle.rooms_program.specs.Commands.{Refuses}
-use Rattle.rooms_program.specs.Schedules.{IsScheduled, IsStopped, most_text}
+use Rattle.rooms_program.specs.Schedules.{IsRunnable, IsStopped}
+use Rattle.rooms_program.specs.Texts.{most_text}
 use Rattle.rooms_program.specs.declared.words.Command.TheVariants.{Schedule}
 use Rattle.rooms_program.specs.declared.status.Status.{Status}
 use Rattle.rooms_program.specs.declared.status.Status.TheVariants as status
@@ -71,12 +72,12 @@ module _ (text : List ℕ) (few : length text ≤ most_text) where
     stopped at act first status.WriteFault r = absurd r
     stopped at act first status.Memory r = absurd r
 
-    -- and prints no run
-    pub unprinted : (at : ℕ) (act : Refused) → FirstRefused plan.rooms plan.callers plan.acts at act → (output : List ℕ) → IsScheduled text output → ⊥
-    unprinted at act first output o =
+    -- and is not accepted
+    pub not_runnable : (at : ℕ) (act : Refused) → FirstRefused plan.rooms plan.callers plan.acts at act → IsRunnable text → ⊥
+    not_runnable at act first r =
         let P : Plan → Type 0 = λ p. FirstRefused p.rooms p.callers p.acts at act in
-        let there = subst P (only o.plan o.spells) first in
-        o.accepted there.index act there.there there.refused
+        let there = subst P (only r.plan r.spells) first in
+        r.accepted there.index act there.there there.refused
 
     -- a schedule of which the core accepts each act is not refused
     pub unrefused : AcceptsFirst plan.rooms plan.callers plan.acts (length plan.acts) → (why : Status) → Refuses Schedule text why → ⊥

@@ -1,11 +1,18 @@
--- The commands: the words that name one, the output of an input, and what is refused.
-use Rattle.std.specs.Prelude.{◌≡◌, ℕ, ◌<◌, List, [], ◌∷◌, length, codes}
+-- The commands: the words that name one, the inputs that are accepted, the output of an input, and what is refused.
+use Rattle.std.specs.Prelude.{◌≡◌, ℕ, ◌<◌, ◌≤◌, List, [], ◌∷◌, length, codes}
 use Rattle.image_core.specs.Fault.{other}
+use Rattle.image_core.specs.Heap.{Heap}
+use Rattle.image_reader.specs.Bytes.{IsImage}
 use Rattle.image_reader.specs.Fault.{HasFault}
+use Rattle.room_script.specs.Lines.{lines_of}
+use Rattle.room_script.specs.Schedules.{IsSchedule}
+use Rattle.room_script.specs.Trials.{IsTrial}
 use Rattle.rooms_program.specs.Compact.{IsCompacted}
-use Rattle.rooms_program.specs.Schedules.{IsScheduled, IsBroken, IsStopped, most_text}
+use Rattle.rooms_program.specs.Schedules.{IsRunnable, IsScheduled, IsStopped}
+use Rattle.rooms_program.specs.Texts.{most_text, IsBroken}
+use Rattle.rooms_program.specs.Trials.{IsTried}
 use Rattle.rooms_program.specs.declared.words.Command.{Command}
-use Rattle.rooms_program.specs.declared.words.Command.TheVariants.{Compact, Schedule}
+use Rattle.rooms_program.specs.declared.words.Command.TheVariants.{Compact, Schedule, Trial}
 use Rattle.rooms_program.specs.declared.status.Status.{Status}
 use Rattle.rooms_program.specs.declared.status.Status.TheVariants.{Image, Script, Act, TooLong}
 
@@ -13,6 +20,7 @@ use Rattle.rooms_program.specs.declared.status.Status.TheVariants.{Image, Script
 abbrev pub words_of : Command → List (List ℕ)
 words_of Compact = codes "compact" ∷ []
 words_of Schedule = codes "schedule" ∷ []
+words_of Trial = codes "trial" ∷ []
 
 -- the words name the command
 abbrev pub Names : List (List ℕ) → Command → Type 0
@@ -22,16 +30,26 @@ Names words command = words ≡ words_of command
 abbrev pub most_bytes : Command → ℕ
 most_bytes Compact = 34078744
 most_bytes Schedule = most_text
+most_bytes Trial = most_text
 
--- the output of an input
+-- an input is accepted: it is an image; a schedule of which the core accepts each act; or a trial that is not too long
+abbrev pub Accepts : Command → List ℕ → Type 0
+Accepts Compact input = (heap : Heap) × IsImage input heap
+Accepts Schedule input = IsRunnable input
+Accepts Trial input = (length input ≤ most_text) × IsTrial (lines_of input)
+
+-- an output of an input: a trial may have several, by which caller comes first
 abbrev pub IsOutput : Command → List ℕ → List ℕ → Type 0
 IsOutput Compact input output = IsCompacted input output
 IsOutput Schedule input output = IsScheduled input output
+IsOutput Trial input output = IsTried input output
 
 -- the bytes of an input are refused, and this says why: of bytes that are no image, no more than that
 abbrev pub Refuses : Command → List ℕ → Status → Type 0
 Refuses Compact bytes (Image fault) = (fault ≡ other) × HasFault bytes
 Refuses Schedule bytes TooLong = most_text < length bytes
-Refuses Schedule bytes (Script line) = IsBroken bytes line
+Refuses Schedule bytes (Script line) = IsBroken IsSchedule bytes line
 Refuses Schedule bytes (Act at why) = IsStopped bytes at why
+Refuses Trial bytes TooLong = most_text < length bytes
+Refuses Trial bytes (Script line) = IsBroken IsTrial bytes line
 Refuses _ bytes _ = ⊥

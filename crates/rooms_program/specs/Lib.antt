@@ -3,3 +3,5 @@ pub mod Compact
 pub mod Runs
 pub mod Schedules
 pub mod Statuses
+pub mod Texts
+pub mod Trials

@@ -3,7 +3,7 @@ use Rattle.std.specs.Prelude.{◌≡◌, ℕ, ◌+◌, ◌⊎◌, List, length, 
 use Rattle.std.specs.declared.option.Option.{Option}
 use Rattle.std.specs.Io.KnownBytes.{Appends, Consumes, IsAtEnd}
 use Rattle.room_io.specs.Causes.{Rose, AppendsPrefix}
-use Rattle.rooms_program.specs.Commands.{most_bytes, IsOutput, Refuses}
+use Rattle.rooms_program.specs.Commands.{most_bytes, Accepts, IsOutput, Refuses}
 use Rattle.rooms_program.specs.declared.words.Command.{Command}
 use Rattle.rooms_program.specs.declared.status.Status.{Status}
 use Rattle.rooms_program.specs.declared.status.Status.TheVariants as status
@@ -13,7 +13,7 @@ pub record WasRead (most : ℕ) (left now_left : Option (List ℕ)) (bytes : Lis
   pub taken : Consumes left now_left bytes
   pub enough : IsAtEnd now_left ⊎ (length bytes ≡ most + 1)
 
--- the input was read to its end, and the sink gained its output
+-- the input was read to its end, and the sink gained an output of it
 pub record WroteAll (command : Command) (left now_left written now_written : Option (List ℕ)) : Type 0 where
   pub input : List ℕ
   pub output : List ℕ
@@ -22,7 +22,7 @@ pub record WroteAll (command : Command) (left now_left written now_written : Opt
   pub defined : IsOutput command input output
   pub wrote : Appends written now_written output
 
--- the input was read to its end, and the sink gained a prefix of its output
+-- the input was read to its end, and the sink gained a prefix of an output of it
 pub record WrotePart (command : Command) (left now_left written now_written : Option (List ℕ)) : Type 0 where
   pub input : List ℕ
   pub output : List ℕ
@@ -37,9 +37,9 @@ pub record WasRefused (command : Command) (left now_left : Option (List ℕ)) (w
   pub read : WasRead (most_bytes command) left now_left bytes
   pub refuses : Refuses command bytes why
 
--- an input that has an output gets it, and one whose bytes are refused gets that refusal, unless memory is wanting
+-- an input that is accepted gets an output, and one whose bytes are refused gets that refusal, unless memory is wanting
 pub record IsAnswered (command : Command) (input : List ℕ) (answer : Status) : Type 0 where
-  pub accepts : (output : List ℕ) → IsOutput command input output → (answer ≡ status.Good) ⊎ (answer ≡ status.Memory)
+  pub accepts : Accepts command input → (answer ≡ status.Good) ⊎ (answer ≡ status.Memory)
   pub refuses : (why : Status) → Refuses command (take (most_bytes command + 1) input) why → (answer ≡ why) ⊎ (answer ≡ status.Memory)
 
 -- a refusal of the bytes that were read

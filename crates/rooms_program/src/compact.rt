@@ -1,6 +1,6 @@
 //! The command `compact`: an image in, its live objects alone out.
-ghost use Rattle.std.specs.Prelude.{◌≡◌, ◌⊎◌, ℕ, List, Err, IfOk, IfErr};
-ghost use Rattle.rooms_program.specs.Commands.{IsOutput, Refuses};
+ghost use Rattle.std.specs.Prelude.{◌≡◌, ◌⊎◌, Err, IfOk, IfErr};
+ghost use Rattle.rooms_program.specs.Commands.{Accepts, IsOutput, Refuses};
 ghost use Rattle.rooms_program.specs.Runs.{IsRefusal};
 
 use crate::status::Status;
@@ -13,7 +13,7 @@ use std::alloc::Global;
 pub fn compacted(alloc: Global, bytes: Vec<u8>) -> Result<Vec<u8>, Status>
     ensures output { IfOk result (λ output. IsOutput Command.Compact bytes.items output.items) }
     ensures why { IfErr result (λ why. (why ≡ Status.Memory) ⊎ (IsRefusal why × Refuses Command.Compact bytes.items why)) }
-    ensures accepts { (output : List ℕ) → IsOutput Command.Compact bytes.items output → IfErr result (λ why. why ≡ Status.Memory) }
+    ensures accepts { Accepts Command.Compact bytes.items → IfErr result (λ why. why ≡ Status.Memory) }
     ensures refuses { (why : Status) → Refuses Command.Compact bytes.items why → (result ≡ Err why) ⊎ (result ≡ Err Status.Memory) }
 {
     let image = read_image(alloc, &bytes)?;

@@ -1,4 +1,5 @@
-//! The program: its words name a command, which reads standard input and writes standard output.
+//! The program: its words name a command, which reads standard input and writes standard output. The
+//! callers of a trial are held by nobody.
 #![tactic(auto)]
 
 mod compact;
@@ -7,12 +8,15 @@ mod perform;
 mod run;
 mod schedule;
 mod status;
+mod trial;
 mod words;
 
 use room_io::{StdSink, StdSource};
+pub use room_trial::{CallerEnd, trial_caller};
 pub use run::{run, schedule_run};
 pub use status::Status;
 use std::process::ExitCode;
+use work_pool::OpenGate;
 
 fn main(rt: HostRuntime) -> ExitCode {
     let alloc = rt.alloc();
@@ -24,7 +28,15 @@ fn main(rt: HostRuntime) -> ExitCode {
         Err(_) => Ok(Vec::new(alloc)),
     };
     let status = match words {
-        Ok(words) => run(alloc, &words, &mut source, &mut sink, &mut notes),
+        Ok(words) => run(
+            &rt,
+            alloc,
+            &words,
+            &mut source,
+            &mut sink,
+            &mut notes,
+            &OpenGate,
+        ),
         Err(_) => Status::Memory,
     };
     ExitCode::from(status.code())

@@ -1,16 +1,20 @@
 //! Performing a command: the input is read, its output made whole in memory, and then written.
-ghost use Rattle.std.specs.Prelude.{◌≡◌, ◌≢◌, ◌⊎◌, ◌+◌, ◌≤◌, take, length, Ok, Err, IfOk, OnOk, IfErr, IfSome, List, ℕ};
+ghost use Rattle.std.specs.Prelude.{◌≡◌, ◌≢◌, ◌⊎◌, ◌+◌, ◌≤◌, take, length, Ok, Err, IfOk, OnOk, IfErr, IfSome};
 ghost use Rattle.std.specs.Io.KnownBytes.{Appends};
 ghost use Rattle.room_io.specs.Causes.{Rose, AppendsPrefix};
-ghost use Rattle.rooms_program.specs.Commands.{most_bytes, IsOutput, Refuses};
+ghost use Rattle.rooms_program.specs.Commands.{most_bytes, Accepts, IsOutput, Refuses};
 ghost use Rattle.rooms_program.specs.Runs.{WasRead, WroteAll, WrotePart, WasRefused, IsAnswered, IsRefusal};
 
 use crate::compact::compacted;
 use crate::schedule::{MOST_TEXT, scheduled};
 use crate::status::Status;
+use crate::trial::tried;
 use crate::words::Command;
 use room_io::{ReadFail, Sink, Source, read_up_to, write_whole};
 use std::alloc::Global;
+use std::sync::Wait;
+use std::thread::Threads;
+use work_pool::Gate;
 
 fn most(command: Command) -> usize
     ensures value { result ≡ most_bytes command }
@@ -18,20 +22,27 @@ fn most(command: Command) -> usize
 {
     match command {
         Command::Compact => 34_078_744,
-        Command::Schedule => MOST_TEXT,
+        Command::Schedule | Command::Trial => MOST_TEXT,
     }
 }
 
-/// The output of an input, or why there is none.
-fn output(alloc: Global, command: Command, bytes: Vec<u8>) -> Result<Vec<u8>, Status>
+/// An output of an input, or why there is none.
+fn output<R: Threads + Wait + Sync, G: Gate + Sync>(
+    rt: &R,
+    alloc: Global,
+    command: Command,
+    bytes: Vec<u8>,
+    gate: &G,
+) -> Result<Vec<u8>, Status>
     ensures output { IfOk result (λ output. IsOutput command bytes.items output.items) }
     ensures why { IfErr result (λ why. (why ≡ Status.Memory) ⊎ (IsRefusal why × Refuses command bytes.items why)) }
-    ensures accepts { (output : List ℕ) → IsOutput command bytes.items output → IfErr result (λ why. why ≡ Status.Memory) }
+    ensures accepts { Accepts command bytes.items → IfErr result (λ why. why ≡ Status.Memory) }
     ensures refuses { (why : Status) → Refuses command bytes.items why → (result ≡ Err why) ⊎ (result ≡ Err Status.Memory) }
 {
     match command {
         Command::Compact => compacted(alloc, bytes),
         Command::Schedule => scheduled(alloc, &bytes),
+        Command::Trial => tried(rt, alloc, &bytes, gate),
     }
 }
 
@@ -59,12 +70,28 @@ fn write_output<K: Sink>(sink: &mut K, output: &[u8]) -> Status
     }
 }
 
-/// Reads the input of a command and writes its output.
-pub fn perform<S: Source, K: Sink>(
+/// Writes the output that was made, or says why there is none.
+fn write_made<K: Sink>(sink: &mut K, made: Result<Vec<u8>, Status>) -> Status
+    ensures good { IfOk made (λ output. result ≡ Status.Good → Appends (K.written sink.old) (K.written sink.new) output.items) }
+    ensures cut { IfOk made (λ output. result ≡ Status.WriteFault → AppendsPrefix (K.written sink.old) (K.written sink.new) output.items) }
+    ensures why { IfOk made (λ _. (result ≡ Status.Good) ⊎ ((result ≡ Status.WriteFault) × Rose (K.faults sink.old) (K.faults sink.new))) }
+    ensures refused { IfErr made (λ why. result ≡ why) }
+    ensures unwritten { IfErr made (λ _. sink.new ≡ sink.old) }
+{
+    match made {
+        Ok(output) => write_output(sink, &output),
+        Err(status) => status,
+    }
+}
+
+/// Reads the input of a command and writes an output of it. It waits for a trial's callers alone.
+pub fn perform<R: Threads + Wait + Sync, S: Source, K: Sink, G: Gate + Sync>(
+    rt: &R,
     alloc: Global,
     command: Command,
     source: &mut S,
     sink: &mut K,
+    gate: &G,
 ) -> Status
     ensures good { result ≡ Status.Good → WroteAll command (S.left source.old) (S.left source.new) (K.written sink.old) (K.written sink.new) }
     ensures refused { IsRefusal result → WasRefused command (S.left source.old) (S.left source.new) result }
@@ -80,8 +107,26 @@ pub fn perform<S: Source, K: Sink>(
         Ok(bytes) => bytes,
         Err(status) => return status,
     };
-    match output(alloc, command, bytes) {
-        Ok(output) => write_output(sink, &output),
-        Err(status) => status,
-    }
+    let made = output(rt, alloc, command, bytes, gate);
+    write_made(sink, made)
+}
+
+/// Reads a schedule and writes the run of the protocol on its acts. It waits for nobody.
+pub fn perform_schedule<S: Source, K: Sink>(alloc: Global, source: &mut S, sink: &mut K) -> Status
+    ensures good { result ≡ Status.Good → WroteAll Command.Schedule (S.left source.old) (S.left source.new) (K.written sink.old) (K.written sink.new) }
+    ensures refused { IsRefusal result → WasRefused Command.Schedule (S.left source.old) (S.left source.new) result }
+    ensures read { result ≡ Status.ReadFault → Rose (S.faults source.old) (S.faults source.new) }
+    ensures write { result ≡ Status.WriteFault → Rose (K.faults sink.old) (K.faults sink.new) }
+    ensures cut { result ≡ Status.WriteFault → WrotePart Command.Schedule (S.left source.old) (S.left source.new) (K.written sink.old) (K.written sink.new) }
+    ensures unwritten { result ≢ Status.Good → result ≢ Status.WriteFault → sink.new ≡ sink.old }
+    ensures words { result ≢ Status.Words }
+    ensures complete { IfSome (S.left source.old) (λ input.
+        ¬ Rose (S.faults source.old) (S.faults source.new) → ¬ Rose (K.faults sink.old) (K.faults sink.new) → IsAnswered Command.Schedule input result) }
+{
+    let bytes = match read_input(alloc, Command::Schedule, source) {
+        Ok(bytes) => bytes,
+        Err(status) => return status,
+    };
+    let made = scheduled(alloc, &bytes);
+    write_made(sink, made)
 }

@@ -6,18 +6,25 @@ ghost use Rattle.rooms_program.specs.Runs.{WroteAll, WrotePart, WasRefused, IsAn
 ghost use Rattle.rooms_program.specs.Statuses.{note_of};
 
 use crate::notes::give_note;
-use crate::perform::perform;
+use crate::perform::{perform, perform_schedule};
 use crate::status::Status;
 use crate::words::{Command, named_command};
 use room_io::{Sink, Source};
 use std::alloc::Global;
+use std::sync::Wait;
+use std::thread::Threads;
+use work_pool::Gate;
 
 /// Performs the command that the words name, from the source to the sink, and leaves a note of one
-/// line for a status other than `Good`. It waits for nobody.
+/// line for a status other than `Good`. It waits for a trial's callers alone.
 ///
 /// `compact` reads an image and writes its slide: the live objects alone, in order, moved down
-/// without gaps. `schedule` reads a text of acts and prints the run of the protocol on them. The
-/// output is complete in memory before the first write.
+/// without gaps. `schedule` reads a text of acts and prints the run of the protocol on them.
+/// `trial` reads a text of callers' scripts, has each caller make the calls of its script on one
+/// bay, in a thread of its own where one can be made, and prints their one history, how many lines
+/// each caller had answered, and what is left in the bay. Before line i of caller c the gate is
+/// asked with c and i, both counted from 0. The output is complete in memory before the first
+/// write.
 ///
 /// # Refusals, in their order
 ///
@@ -25,16 +32,19 @@ use std::alloc::Global;
 /// - `ReadFault`: only where a read of this call failed.
 /// - `TooLong`: exactly where a text has more than 1,048,576 bytes.
 /// - `Image`: exactly where the bytes read are no image.
-/// - `Script`: exactly where the text is no schedule, with the first line that breaks its rules.
+/// - `Script`: exactly where the text is no schedule or no trial, with the first line that breaks
+///   its rules.
 /// - `Act`: exactly where the core refuses an act, with the first one.
 /// - `WriteFault`: only where a write of this call failed; the sink gained a prefix of the output.
 /// - `Memory`: for want of memory, at any point; the sink gained nothing.
-pub fn run<S: Source, K: Sink, N: Sink>(
+pub fn run<R: Threads + Wait + Sync, S: Source, K: Sink, N: Sink, G: Gate + Sync>(
+    rt: &R,
     alloc: Global,
     words: &[String],
     source: &mut S,
     sink: &mut K,
     notes: &mut N,
+    gate: &G,
 ) -> Status
     ensures words { (result ≡ Status.Words) ↔ ((command : Command) → ¬ Names (map string_bytes words.now) command) }
     ensures unread { result ≡ Status.Words → source.new ≡ source.old }
@@ -52,17 +62,19 @@ pub fn run<S: Source, K: Sink, N: Sink>(
     ensures complete { (command : Command) → Names (map string_bytes words.now) command → IfSome (S.left source.old) (λ input.
         ¬ Rose (S.faults source.old) (S.faults source.new) → ¬ Rose (K.faults sink.old) (K.faults sink.new) → IsAnswered command input result) }
 {
-    let status = answer(alloc, words, source, sink);
+    let status = answer(rt, alloc, words, source, sink, gate);
     give_note(notes, status);
     status
 }
 
 /// Performs the command that the words name, if they name one.
-fn answer<S: Source, K: Sink>(
+fn answer<R: Threads + Wait + Sync, S: Source, K: Sink, G: Gate + Sync>(
+    rt: &R,
     alloc: Global,
     words: &[String],
     source: &mut S,
     sink: &mut K,
+    gate: &G,
 ) -> Status
     ensures words { (result ≡ Status.Words) ↔ ((command : Command) → ¬ Names (map string_bytes words.now) command) }
     ensures unread { result ≡ Status.Words → source.new ≡ source.old }
@@ -79,7 +91,7 @@ fn answer<S: Source, K: Sink>(
         ¬ Rose (S.faults source.old) (S.faults source.new) → ¬ Rose (K.faults sink.old) (K.faults sink.new) → IsAnswered command input result) }
 {
     match named_command(words) {
-        Some(command) => perform(alloc, command, source, sink),
+        Some(command) => perform(rt, alloc, command, source, sink, gate),
         None => Status::Words,
     }
 }
@@ -106,7 +118,7 @@ pub fn schedule_run<S: Source, K: Sink, N: Sink>(
     ensures complete { IfSome (S.left source.old) (λ input.
         ¬ Rose (S.faults source.old) (S.faults source.new) → ¬ Rose (K.faults sink.old) (K.faults sink.new) → IsAnswered Command.Schedule input result) }
 {
-    let status = perform(alloc, Command::Schedule, source, sink);
+    let status = perform_schedule(alloc, source, sink);
     give_note(notes, status);
     status
 }

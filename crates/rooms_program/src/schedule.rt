@@ -1,6 +1,6 @@
 //! The command `schedule`: the text of a schedule in, its run in print out.
-ghost use Rattle.std.specs.Prelude.{◌≡◌, ◌⊎◌, ℕ, List, Err, IfOk, IfErr};
-ghost use Rattle.rooms_program.specs.Commands.{IsOutput, Refuses};
+ghost use Rattle.std.specs.Prelude.{◌≡◌, ◌⊎◌, Err, IfOk, IfErr};
+ghost use Rattle.rooms_program.specs.Commands.{Accepts, IsOutput, Refuses};
 ghost use Rattle.rooms_program.specs.Runs.{IsRefusal};
 
 use crate::status::Status;
@@ -16,7 +16,7 @@ pub const MOST_TEXT: usize = 1_048_576;
 pub fn scheduled(alloc: Global, text: &[u8]) -> Result<Vec<u8>, Status>
     ensures output { IfOk result (λ output. IsOutput Command.Schedule text.now output.items) }
     ensures why { IfErr result (λ why. (why ≡ Status.Memory) ⊎ (IsRefusal why × Refuses Command.Schedule text.now why)) }
-    ensures accepts { (output : List ℕ) → IsOutput Command.Schedule text.now output → IfErr result (λ why. why ≡ Status.Memory) }
+    ensures accepts { Accepts Command.Schedule text.now → IfErr result (λ why. why ≡ Status.Memory) }
     ensures refuses { (why : Status) → Refuses Command.Schedule text.now why → (result ≡ Err why) ⊎ (result ≡ Err Status.Memory) }
 {
     if text.len() > MOST_TEXT {

@@ -9,6 +9,9 @@ pub enum Command {
     Compact,
     /// Reads a schedule and prints the run of the protocol on its acts.
     Schedule,
+    /// Reads a trial and prints the one history of its callers, how many lines each of them had
+    /// answered, and what is left.
+    Trial,
 }
 
 /// The command that the words name, if they name one.
@@ -29,6 +32,8 @@ fn one_word(word: &str) -> Option<Command>
         Some(Command::Compact)
     } else if word == "schedule" {
         Some(Command::Schedule)
+    } else if word == "trial" {
+        Some(Command::Trial)
     } else {
         None
     }

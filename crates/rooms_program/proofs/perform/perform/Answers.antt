@@ -1,36 +1,17 @@
-use Rattle.std.proofs.Common.{inl, inr}
-use Rattle.rooms_program.specs.Commands.{most_bytes}
-use Rattle.rooms_program.proofs.Inputs.{output_size, read_to_end, answered}
+use Rattle.rooms_program.proofs.Performing.{wrote_all, wrote_part, answered}
 use Rattle.rooms_program.proofs.perform.perform.Goals as goal
 
-pub returns-in-Ok-output-clause-good : goal.returns-in-Ok-output-clause-good
-returns-in-Ok-output-clause-good g c = λ good.
-    let read = c.in-Ok.ensures.read in
-    let defined = c.in-Ok-output.ensures.output in
-    record {
-      input = c.in-Ok.bytes.items;
-      output = c.in-Ok-output.output.items;
-      taken = read.taken;
-      ended = read_to_end (most_bytes c.args.command) _ _ _ read (output_size c.args.command _ _ defined);
-      defined = defined;
-      wrote = rw (← c.deref.ensures.value) (c.write_output.ensures.good good);
-    }
+pub returns-clause-good : goal.returns-clause-good
+returns-clause-good g c =
+    let made = c.output-made.ensures in let put = c.write_made.ensures in
+    wrote_all c.args.command _ _ _ _ c.in-Ok.ensures.read _ _ _ made.output made.why put.good put.refused
 
-pub returns-in-Ok-output-clause-cut : goal.returns-in-Ok-output-clause-cut
-returns-in-Ok-output-clause-cut g c = λ fault.
-    let read = c.in-Ok.ensures.read in
-    let defined = c.in-Ok-output.ensures.output in
-    record {
-      input = c.in-Ok.bytes.items;
-      output = c.in-Ok-output.output.items;
-      taken = read.taken;
-      ended = read_to_end (most_bytes c.args.command) _ _ _ read (output_size c.args.command _ _ defined);
-      defined = defined;
-      wrote = rw (← c.deref.ensures.value) (c.write_output.ensures.cut fault);
-    }
+pub returns-clause-cut : goal.returns-clause-cut
+returns-clause-cut g c =
+    let made = c.output-made.ensures in let put = c.write_made.ensures in
+    wrote_part c.args.command _ _ _ _ c.in-Ok.ensures.read _ _ _ made.output made.why put.cut put.refused
 
-pub returns-in-Err-output-clause-complete : goal.returns-in-Err-output-clause-complete
-returns-in-Err-output-clause-complete g c =
-    answered _ _ c.args.command (g.S.Source.left c.args.source.now) c.in-Ok.bytes.items c.in-Err-output.status c.in-Ok.ensures.known
-    (λ output o. c.in-Err-output.ensures.accepts output o)
-    (λ why r. elim (c.in-Err-output.ensures.refuses why r) [ inl e ↦ inl cc | inr e ↦ inr cc ])
+pub returns-clause-complete : goal.returns-clause-complete
+returns-clause-complete g c =
+    let made = c.output-made.ensures in let put = c.write_made.ensures in
+    answered _ _ _ c.args.command _ _ _ c.in-Ok.ensures.known made.accepts made.refuses put.why put.refused
