@@ -1,9 +1,14 @@
 use crate::{Status, run, schedule_run};
+use crossbeam_utils::Backoff;
 use image_core::{ImageFault, ImageKind};
 use room_core::Refused;
 use room_io::{MemSink, MemSource};
 use std::alloc::{AllocError, Global};
+use std::sync::Wait;
+use std::sync::atomic::{AtomicU64, Ordering};
 use std::test::Fail;
+use std::thread::Threads;
+use work_pool::{Gate, OpenGate};
 
 /// The bytes of an image: its magic, and then these numbers.
 fn image(alloc: Global, numbers: &[u64]) -> Result<Vec<u8>, AllocError> {
@@ -24,7 +29,8 @@ struct Ended {
 }
 
 /// A run of `compact` over devices of which the calls that are named fail.
-fn compacted(
+fn compacted<R: Threads + Wait + Sync>(
+    rt: &R,
     alloc: Global,
     bytes: Vec<u8>,
     failing_read: Option<u64>,
@@ -42,7 +48,15 @@ fn compacted(
     let mut source = MemSource::new(bytes, reads, 1000);
     let mut sink = MemSink::new(alloc, 100, writes, 24)?;
     let mut notes = MemSink::new(alloc, 100, Vec::new(alloc), 7)?;
-    let status = run(alloc, &words, &mut source, &mut sink, &mut notes);
+    let status = run(
+        rt,
+        alloc,
+        &words,
+        &mut source,
+        &mut sink,
+        &mut notes,
+        &OpenGate,
+    );
     Ok(Ended {
         status,
         sink,
@@ -63,7 +77,7 @@ fn compact_keeps_the_live_objects(rt: HostRuntime) -> Result<(), Fail> {
         (&[2, 2, 21474836481, 1, 0, 1], &[2, 2, 21474836481, 1, 0, 1]),
     ];
     for (input, output) in cases {
-        let ended = compacted(alloc, image(alloc, input)?, None, None)?;
+        let ended = compacted(&rt, alloc, image(alloc, input)?, None, None)?;
         assert_eq!(rt; ended.status, Status::Good);
         assert_eq!(rt; ended.sink.written(), image(alloc, output)?.as_slice());
         assert!(rt; ended.notes.written().is_empty());
@@ -90,7 +104,7 @@ fn compact_refuses_what_is_no_image(rt: HostRuntime) -> Result<(), Fail> {
         value: 0,
     };
     for bytes in cases {
-        let ended = compacted(alloc, bytes, None, None)?;
+        let ended = compacted(&rt, alloc, bytes, None, None)?;
         assert_eq!(rt; ended.status, Status::Image(fault));
         assert!(rt; ended.sink.written().is_empty());
         assert_eq!(rt;
@@ -104,7 +118,7 @@ fn compact_refuses_what_is_no_image(rt: HostRuntime) -> Result<(), Fail> {
 #[test]
 fn a_failed_write_leaves_a_prefix_and_a_note(rt: HostRuntime) -> Result<(), Fail> {
     let alloc = rt.alloc();
-    let ended = compacted(alloc, image(alloc, &FIVE_WORDS)?, None, Some(1))?;
+    let ended = compacted(&rt, alloc, image(alloc, &FIVE_WORDS)?, None, Some(1))?;
     assert_eq!(rt; ended.status, Status::WriteFault);
     let first = image(alloc, &[3, 1])?;
     assert_eq!(rt; ended.sink.written(), first.as_slice());
@@ -115,7 +129,7 @@ fn a_failed_write_leaves_a_prefix_and_a_note(rt: HostRuntime) -> Result<(), Fail
 #[test]
 fn a_failed_read_leaves_a_note(rt: HostRuntime) -> Result<(), Fail> {
     let alloc = rt.alloc();
-    let ended = compacted(alloc, image(alloc, &FIVE_WORDS)?, Some(0), None)?;
+    let ended = compacted(&rt, alloc, image(alloc, &FIVE_WORDS)?, Some(0), None)?;
     assert_eq!(rt; ended.status, Status::ReadFault);
     assert!(rt; ended.sink.written().is_empty());
     assert_eq!(rt; ended.notes.written(), b"read fault\n".as_slice());
@@ -125,7 +139,13 @@ fn a_failed_read_leaves_a_note(rt: HostRuntime) -> Result<(), Fail> {
 #[test]
 fn other_words_are_refused_and_nothing_is_read(rt: HostRuntime) -> Result<(), Fail> {
     let alloc = rt.alloc();
-    let cases: [&[&str]; 4] = [&["compact", "extra"], &[], &["--help"], &["schedul"]];
+    let cases: [&[&str]; 5] = [
+        &["compact", "extra"],
+        &[],
+        &["--help"],
+        &["schedul"],
+        &["trial", "1"],
+    ];
     for case in cases {
         let mut words = Vec::new(alloc);
         for word in case {
@@ -135,7 +155,15 @@ fn other_words_are_refused_and_nothing_is_read(rt: HostRuntime) -> Result<(), Fa
         let mut source = MemSource::new(bytes, Vec::new(alloc), 1000);
         let mut sink = MemSink::new(alloc, 100, Vec::new(alloc), 24)?;
         let mut notes = MemSink::new(alloc, 100, Vec::new(alloc), 7)?;
-        let status = run(alloc, &words, &mut source, &mut sink, &mut notes);
+        let status = run(
+            &rt,
+            alloc,
+            &words,
+            &mut source,
+            &mut sink,
+            &mut notes,
+            &OpenGate,
+        );
         assert_eq!(rt; status, Status::Words);
         assert_eq!(rt; source.left().len(), 72);
         assert!(rt; sink.written().is_empty());
@@ -170,12 +198,24 @@ fn each_status_has_its_number(rt: HostRuntime) -> Result<(), Fail> {
 
 /// Runs `schedule` on a text, by its words and by its own call: how each ended, and what the first
 /// wrote to the sink and to the notes.
-fn scheduled(alloc: Global, text: &[u8]) -> Result<(Status, Status, MemSink, MemSink), AllocError> {
+fn scheduled<R: Threads + Wait + Sync>(
+    rt: &R,
+    alloc: Global,
+    text: &[u8],
+) -> Result<(Status, Status, MemSink, MemSink), AllocError> {
     let words = [String::from_str(alloc, "schedule")?];
     let mut source = MemSource::new(Vec::from_slice(alloc, text)?, Vec::new(alloc), 1000000);
     let mut sink = MemSink::new(alloc, 1000, Vec::new(alloc), 1000)?;
     let mut notes = MemSink::new(alloc, 100, Vec::new(alloc), 100)?;
-    let status = run(alloc, &words, &mut source, &mut sink, &mut notes);
+    let status = run(
+        rt,
+        alloc,
+        &words,
+        &mut source,
+        &mut sink,
+        &mut notes,
+        &OpenGate,
+    );
     let mut source = MemSource::new(Vec::from_slice(alloc, text)?, Vec::new(alloc), 1000000);
     let mut other_sink = MemSink::new(alloc, 1000, Vec::new(alloc), 1000)?;
     let mut other_notes = MemSink::new(alloc, 100, Vec::new(alloc), 100)?;
@@ -209,7 +249,7 @@ fn schedule_prints_the_run(rt: HostRuntime) -> Result<(), Fail> {
         ),
     ];
     for (text, output) in cases {
-        let (status, other, sink, notes) = scheduled(alloc, text.as_bytes())?;
+        let (status, other, sink, notes) = scheduled(&rt, alloc, text.as_bytes())?;
         assert_eq!(rt; status, Status::Good);
         assert_eq!(rt; other, Status::Good);
         assert_eq!(rt; sink.written(), output.as_bytes());
@@ -237,11 +277,178 @@ fn schedule_refuses_texts_and_acts(rt: HostRuntime) -> Result<(), Fail> {
         (long.as_slice(), Status::TooLong, "text too long\n"),
     ];
     for (text, refusal, note) in cases {
-        let (status, other, sink, notes) = scheduled(alloc, text)?;
+        let (status, other, sink, notes) = scheduled(&rt, alloc, text)?;
         assert_eq!(rt; status, refusal);
         assert_eq!(rt; other, refusal);
         assert!(rt; sink.written().is_empty());
         assert_eq!(rt; notes.written(), note.as_bytes());
     }
+    Ok(())
+}
+
+/// Runs `trial` on a text, under a gate.
+fn tried<R: Threads + Wait + Sync, G: Gate + Sync>(
+    rt: &R,
+    alloc: Global,
+    text: &[u8],
+    gate: &G,
+) -> Result<Ended, AllocError> {
+    let words = [String::from_str(alloc, "trial")?];
+    let mut source = MemSource::new(Vec::from_slice(alloc, text)?, Vec::new(alloc), 1000000);
+    let mut sink = MemSink::new(alloc, 1000, Vec::new(alloc), 1000)?;
+    let mut notes = MemSink::new(alloc, 100, Vec::new(alloc), 100)?;
+    let status = run(rt, alloc, &words, &mut source, &mut sink, &mut notes, gate);
+    Ok(Ended {
+        status,
+        sink,
+        notes,
+        source,
+    })
+}
+
+#[test]
+fn trial_prints_what_its_callers_did(rt: HostRuntime) -> Result<(), Fail> {
+    let alloc = rt.alloc();
+    let pops =
+        "trial 1\nlayout split\nblocks 1\ndraws 100\ncaller\npop\npush 5\npush 5\npop\npop\npop\n";
+    let spent = "trial 1\nlayout split\nblocks 1\ndraws 2\ncaller\npush 1\npop\npop\n";
+    let idle = "trial 1\nlayout split\nblocks 1\ndraws 1\ncaller\n";
+    let cases = [
+        (
+            pops,
+            "1 4294967296 0 pop - empty\n2 4294967296 0 push 5 ok\n3 4294967297 0 push 5 ok\n4 4294967294 0 pop - 5\n5 4294967295 0 pop - 5\n6 4294967296 0 pop - empty\ncaller 0 answered 6 of 6\nstack\nqueue\n",
+        ),
+        (
+            spent,
+            "1 4294967296 0 push 1 ok\n2 4294967295 0 pop - 1\ncaller 0 answered 2 of 3\nstack\nqueue\n",
+        ),
+        (idle, "caller 0 answered 0 of 0\nstack\nqueue\n"),
+    ];
+    for (text, output) in cases {
+        let ended = tried(&rt, alloc, text.as_bytes(), &OpenGate)?;
+        assert_eq!(rt; ended.status, Status::Good);
+        assert_eq!(rt; ended.sink.written(), output.as_bytes());
+        assert!(rt; ended.notes.written().is_empty());
+    }
+    Ok(())
+}
+
+#[test]
+fn trial_refuses_texts(rt: HostRuntime) -> Result<(), Fail> {
+    let alloc = rt.alloc();
+    let long = vec![in alloc; b'\n'; 1_048_577]?;
+    let cases = [
+        (b"".as_slice(), Status::Script(1), "script line 1\n"),
+        (
+            b"trial 1\nlayout torn\n".as_slice(),
+            Status::Script(2),
+            "script line 2\n",
+        ),
+        (
+            b"trial 1\nlayout paged\n".as_slice(),
+            Status::Script(2),
+            "script line 2\n",
+        ),
+        (long.as_slice(), Status::TooLong, "text too long\n"),
+    ];
+    for (text, refusal, note) in cases {
+        let ended = tried(&rt, alloc, text, &OpenGate)?;
+        assert_eq!(rt; ended.status, refusal);
+        assert!(rt; ended.sink.written().is_empty());
+        assert_eq!(rt; ended.notes.written(), note.as_bytes());
+    }
+    Ok(())
+}
+
+/// A gate for two callers. It holds each before its first line until the other has come there.
+#[derive(Drop)]
+struct Meeting {
+    /// How often the callers 0 and 1 asked.
+    first: AtomicU64,
+    second: AtomicU64,
+    /// How many callers gave up waiting.
+    missed: AtomicU64,
+}
+
+impl Meeting {
+    fn new() -> Meeting {
+        Meeting {
+            first: AtomicU64::new(0),
+            second: AtomicU64::new(0),
+            missed: AtomicU64::new(0),
+        }
+    }
+
+    /// Returns once the other caller has asked, or after so many turns, which it counts.
+    fn wait_for(&self, other: &AtomicU64) {
+        let backoff = Backoff::new();
+        for _ in 0..10_000_000 {
+            if other.load(Ordering::SeqCst) > 0 {
+                return;
+            }
+            backoff.snooze();
+        }
+        self.missed.fetch_add(1, Ordering::SeqCst);
+    }
+}
+
+impl Gate for Meeting {
+    fn ask(&self, worker: u32, take: u64) {
+        let (mine, other) = if worker == 0 {
+            (&self.first, &self.second)
+        } else {
+            (&self.second, &self.first)
+        };
+        mine.fetch_add(1, Ordering::SeqCst);
+        if take == 0 {
+            self.wait_for(other);
+        }
+    }
+}
+
+/// Whether one of the lines of the text is this.
+fn has_line(text: &[u8], line: &[u8]) -> bool {
+    text.split(|byte| *byte == b'\n').any(|other| other == line)
+}
+
+#[test]
+fn callers_are_under_way_together(rt: HostRuntime) -> Result<(), Fail> {
+    let alloc = rt.alloc();
+    let text =
+        b"trial 1\nlayout split\nblocks 1\ndraws 100\ncaller\npush 1\npush 2\ncaller\npush 1\npush 2\n";
+    let gate = Meeting::new();
+    let ended = tried(&rt, alloc, text, &gate)?;
+    assert_eq!(rt; ended.status, Status::Good);
+    assert_eq!(rt; gate.missed.load(Ordering::SeqCst), 0);
+    assert_eq!(rt; gate.first.load(Ordering::SeqCst), 2);
+    assert_eq!(rt; gate.second.load(Ordering::SeqCst), 2);
+    assert!(rt; has_line(ended.sink.written(), b"caller 0 answered 2 of 2"));
+    assert!(rt; has_line(ended.sink.written(), b"caller 1 answered 2 of 2"));
+    Ok(())
+}
+
+/// A gate that counts its questions.
+#[derive(Drop)]
+struct Count {
+    asked: AtomicU64,
+}
+
+impl Gate for Count {
+    fn ask(&self, _worker: u32, _take: u64) {
+        self.asked.fetch_add(1, Ordering::SeqCst);
+    }
+}
+
+#[test]
+fn a_caller_asks_nothing_after_it_was_spent(rt: HostRuntime) -> Result<(), Fail> {
+    let alloc = rt.alloc();
+    let text = b"trial 1\nlayout split\nblocks 1\ndraws 2\ncaller\npush 1\npop\npop\npop\n";
+    let gate = Count {
+        asked: AtomicU64::new(0),
+    };
+    let ended = tried(&rt, alloc, text, &gate)?;
+    assert_eq!(rt; ended.status, Status::Good);
+    assert_eq!(rt; gate.asked.load(Ordering::SeqCst), 3);
+    assert!(rt; has_line(ended.sink.written(), b"caller 0 answered 2 of 4"));
     Ok(())
 }
