@@ -1,5 +1,5 @@
 -- What was read of an input that is accepted.
-use Rattle.std.proofs.Common.{◌≡◌, ◌⊎◌, ℕ, ◌+◌, ◌<◌, ◌≤◌, List, length, take, IfSome, Some, None, inl, inr, sym, subst, ◌∙◌, ap, arith}
+use Rattle.std.proofs.Common.{◌≡◌, ℕ, ◌+◌, ◌≤◌, List, length, take, inl, inr, sym, subst, ◌∙◌, ap, arith}
 use Rattle.std.specs.declared.option.Option.{Option}
 use Rattle.std.proofs.lemmas.List.{take_all}
 use Rattle.std.specs.Io.KnownBytes.{IsAtEnd}
@@ -9,7 +9,7 @@ use Rattle.image_core.specs.Fault.{other}
 use Rattle.image_reader.proofs.Spelling.{length-spelling}
 use Rattle.image_reader.proofs.Once.{no_fault}
 use Rattle.rooms_program.specs.Commands.{most_bytes, Accepts, IsOutput, Refuses}
-use Rattle.rooms_program.specs.Runs.{WasRead, IsAnswered}
+use Rattle.rooms_program.specs.Runs.{WasRead}
 use Rattle.rooms_program.specs.declared.words.Command.{Command}
 use Rattle.rooms_program.specs.declared.words.Command.TheVariants.{Compact, Schedule, Trial}
 use Rattle.rooms_program.specs.declared.status.Status.{Status}

@@ -1,5 +1,5 @@
 -- Words name at most one command.
-use Rattle.std.proofs.Common.{◌≡◌, ℕ, List, [], ◌∷◌, refl, sym, subst, ◌∙◌, ap, codes}
+use Rattle.std.proofs.Common.{◌≡◌, ℕ, List, refl, sym, subst, ◌∙◌}
 use Rattle.rooms_program.specs.Commands.{Names, words_of}
 use Rattle.rooms_program.specs.declared.words.Command.{Command}
 use Rattle.rooms_program.specs.declared.words.Command.TheVariants.{Compact, Schedule, Trial}

@@ -1,5 +1,5 @@
 -- What an answer says of the bytes that were read, and of what was made of them.
-use Rattle.std.proofs.Common.{◌≡◌, ◌⊎◌, ℕ, ◌+◌, List, length, take, IfOk, IfErr, IfSome, Some, None, Ok, Err, Vec, Global, inl, inr, sym, subst, ◌∙◌}
+use Rattle.std.proofs.Common.{◌≡◌, ◌⊎◌, ℕ, ◌+◌, List, take, IfOk, IfErr, IfSome, Some, None, Ok, Err, Vec, Global, inl, inr, sym, subst, ◌∙◌}
 use Rattle.std.specs.declared.option.Option.{Option}
 use Rattle.std.specs.declared.result.Result.{Result}
 use Rattle.std.specs.Io.KnownBytes.{Appends}

@@ -1,5 +1,5 @@
 -- A text of acts is a schedule that runs, or it is refused in one way.
-use Rattle.std.proofs.Common.{◌≡◌, ℕ, ◌+◌, ◌<◌, ◌≤◌, ◌⊎◌, List, length, take, slice_index_or, Result, Ok, Err, refl, sym, ap, subst, ◌∙◌, inl, inr, arith}
+use Rattle.std.proofs.Common.{◌≡◌, ℕ, ◌<◌, ◌≤◌, List, length, take, slice_index_or, refl, sym, ap, subst, arith}
 use Rattle.room_core.specs.declared.acts.Act.{Act}
 use Rattle.room_core.specs.declared.acts.Act.TheVariants.{Draw}
 use Rattle.room_core.specs.declared.acts.Refused.{Refused}
@@ -13,7 +13,7 @@ use Rattle.room_script.specs.Lines.{lines_of}
 use Rattle.room_script.specs.Breaks.{BreaksAt}
 use Rattle.room_script.specs.Schedules.{Plan, Spells, IsSchedule}
 use Rattle.rooms_program.specs.Commands.{Refuses}
-use Rattle.rooms_program.specs.Schedules.{IsRunnable, IsStopped}
+use Rattle.rooms_program.specs.Schedules.{IsRunnable}
 use Rattle.rooms_program.specs.Texts.{most_text}
 use Rattle.rooms_program.specs.declared.words.Command.TheVariants.{Schedule}
 use Rattle.rooms_program.specs.declared.status.Status.{Status}

@@ -1,5 +1,5 @@
 -- A text is a trial, or it is refused in one way.
-use Rattle.std.proofs.Common.{◌≡◌, ℕ, ◌<◌, ◌≤◌, List, length, ap, arith}
+use Rattle.std.proofs.Common.{◌≡◌, ℕ, ◌≤◌, List, length, arith}
 use Rattle.room_script.specs.Lines.{lines_of}
 use Rattle.room_script.specs.Breaks.{BreaksAt}
 use Rattle.room_script.specs.Trials.{IsTrial}

@@ -1,5 +1,5 @@
 //! Performing a command: the input is read, its output made whole in memory, and then written.
-ghost use Rattle.std.specs.Prelude.{◌≡◌, ◌≢◌, ◌⊎◌, ◌+◌, ◌≤◌, take, length, Ok, Err, IfOk, OnOk, IfErr, IfSome};
+ghost use Rattle.std.specs.Prelude.{◌≡◌, ◌≢◌, ◌⊎◌, ◌+◌, ◌≤◌, take, Err, IfOk, IfErr, IfSome};
 ghost use Rattle.std.specs.Io.KnownBytes.{Appends};
 ghost use Rattle.room_io.specs.Causes.{Rose, AppendsPrefix};
 ghost use Rattle.rooms_program.specs.Commands.{most_bytes, Accepts, IsOutput, Refuses};

@@ -1,4 +1,4 @@
-use Rattle.std.proofs.Common.{◌≡◌, map, string_bytes, IfSome}
+use Rattle.std.proofs.Common.{map, string_bytes, IfSome}
 use Rattle.room_io.specs.Causes.{Rose}
 use Rattle.rooms_program.specs.Runs.{IsAnswered}
 use Rattle.rooms_program.proofs.Naming.{of_named}

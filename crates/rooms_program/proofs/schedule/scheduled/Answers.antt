@@ -1,5 +1,4 @@
-use Rattle.std.proofs.Common.{rules, ◌≡◌, ◌∙◌, ◌≤◌, ap, sym, inl, inr, Err, length, arith}
-use Rattle.room_core.specs.declared.runs.RunFault.TheVariants as ran
+use Rattle.std.proofs.Common.{rules, ◌≤◌, ap, inl, inr, Err, length}
 use Rattle.room_script.specs.Schedules.{plan_of}
 use Rattle.rooms_program.specs.Texts.{most_text}
 use Rattle.rooms_program.proofs.Schedules.{broken, stopped, not_runnable, unrefused}
