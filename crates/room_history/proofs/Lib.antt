@@ -2,3 +2,4 @@ pub mod Chains
 pub mod Twins
 pub mod Callers
 pub mod Disorders
+pub mod Telling

@@ -1,3 +1,4 @@
 pub mod Order
 pub mod Merging
 pub mod Prints
+pub mod Told

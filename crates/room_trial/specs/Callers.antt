@@ -4,8 +4,9 @@ use Rattle.room_gate.specs.Shows.{Caller}
 use Rattle.bay_core.specs.declared.calls.Entry.{Entry}
 use Rattle.bay_core.specs.History.{own, GoesOn}
 use Rattle.bay_rule.specs.declared.views.BayView.{BayView}
+use Rattle.room_history.specs.Told.{told}
 use Rattle.room_script.specs.declared.trials.Line.{Line}
-use Rattle.room_trial.specs.Scripts.{asked, called, items_taken, told}
+use Rattle.room_trial.specs.Scripts.{asked, called, items_taken}
 
 -- A caller's calls of a script's lines, with the entries es.
 pub record Answers (lines : List Line) (before now : Caller BayView) (es : List Entry) : Type 0 where

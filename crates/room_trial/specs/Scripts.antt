@@ -1,14 +1,11 @@
 -- The lines of a script and the entries of their calls.
-use Rattle.std.specs.Prelude.{ℕ, List, reverse}
+use Rattle.std.specs.Prelude.{ℕ, List}
 use Rattle.std.specs.List.{sum_by}
 use Rattle.bay_core.specs.declared.calls.Op.{Op}
 use Rattle.bay_core.specs.declared.calls.Op.TheVariants as ops
 use Rattle.bay_core.specs.declared.calls.Reply.{Reply}
 use Rattle.bay_core.specs.declared.calls.Reply.TheVariants.{Item}
 use Rattle.bay_core.specs.declared.calls.Entry.{Entry}
-use Rattle.bay_core.specs.declared.calls.Noted.{Noted}
-use Rattle.bay_core.specs.Noted.{entries}
-use Rattle.room_history.specs.Merging.{of_caller}
 use Rattle.room_script.specs.declared.trials.Line.{Line}
 use Rattle.room_script.specs.declared.trials.Line.TheVariants.{Push, Pop, Enq, Deq}
 
@@ -31,7 +28,3 @@ taken_of _ = 0
 -- how many the calls of these entries took
 abbrev pub items_taken : List Entry → ℕ
 items_taken es = sum_by (λ e. taken_of e.reply) es
-
--- the entries of a caller's own calls in a history, in their order
-abbrev pub told : ℕ → List Noted → List Entry
-told who history = of_caller who (reverse (entries history))

@@ -9,7 +9,7 @@ use Rattle.bay_core.specs.Noted.{entry_in, after, entries}
 use Rattle.bay_core.specs.History.{own, GoesOn}
 use Rattle.bay_core.proofs.OwnCalls.{own_same, own_other}
 use Rattle.room_history.specs.Merging.{of_caller}
-use Rattle.room_trial.specs.Scripts.{told}
+use Rattle.room_history.specs.Told.{told}
 
 of_same : (c : ℕ) (e : Entry) → e.who ≡ c → of_caller c (e ∷ []) ≡ e ∷ []
 of_same c e is = ap (λ b. cond b (e ∷ []) []) (eq-eqb e.who c is)
