@@ -1,10 +1,16 @@
-//! What callers of a pool of work stand on. So far it has the gate alone, where a caller asks before
-//! each of its calls.
+//! A pool of work: items that callers share through a bay, which they put in and take out until the
+//! bay is quiet. Before each try to take, a caller asks a gate.
 #![tactic(auto)]
 
 mod gates;
+mod hands;
+mod pools;
+mod puts;
 
 pub use gates::{Gate, OpenGate};
+pub use hands::Hand;
+pub use pools::{Pool, Way};
+pub use puts::Put;
 
 #[cfg(test)]
 mod tests;

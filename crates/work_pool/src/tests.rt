@@ -3,14 +3,18 @@ use crate::{Gate, OpenGate};
 use std::cell::Cell;
 use std::test::Fail;
 
+mod pools;
+
 // A gate that adds up what it was asked.
+#[derive(Drop)]
 struct Counts {
     sum: Cell<u64>,
 }
 
 impl Gate for Counts {
     fn ask(&self, worker: u32, take: u64) {
-        self.sum.set(self.sum.get().wrapping_add(10 * worker as u64 + take));
+        let asked = (10 * worker as u64).wrapping_add(take);
+        self.sum.set(self.sum.get().wrapping_add(asked));
     }
 }
 

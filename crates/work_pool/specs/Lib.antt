@@ -1,0 +1,4 @@
+pub mod Shows
+pub mod Tokens
+pub mod Ways
+pub mod Puts

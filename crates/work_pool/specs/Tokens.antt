@@ -1,0 +1,11 @@
+-- Pools and hands by their fields.
+use Rattle.std.specs.Prelude.{ℕ, ◌^◌, ◌<◌}
+use Rattle.work_pool.specs.Shows.{Shared, Worker}
+use Rattle.work_pool.specs.declared.pools.Pool.TheInside as pool
+use Rattle.work_pool.specs.declared.hands.Hand.TheInside as hand
+
+abbrev pub shared_of : pool.Inside → Shared
+shared_of p = record { site = p.bay.now.site; blocks = p.bay.now.usage.blocks; way = p.way }
+
+abbrev pub worker_of : hand.Inside → Worker
+worker_of h = record { caller = h.pass; worker = h.worker; asked = h.asked }
