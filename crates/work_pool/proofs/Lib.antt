@@ -1,1 +1,3 @@
 pub mod Putting
+pub mod Settling
+pub mod Taking

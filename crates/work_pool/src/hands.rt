@@ -1,5 +1,6 @@
 //! A caller of a pool.
 ghost use Rattle.std.specs.Prelude.{◌≡◌, ◌^◌, ◌<◌};
+ghost use Rattle.bay_core.specs.History.{own};
 
 use bay_store::BayPass;
 use std::marker::Model;
@@ -41,6 +42,15 @@ impl Hand {
         ensures { result ≡ self.caller }
     {
         self.pass
+    }
+
+    /// The caller's number in the bay: its own calls are those of this number in the history that it
+    /// has seen.
+    pub fn who(&self) -> u32
+        ensures value { result ≡ self.now.caller.who }
+        ensures mine { self.now.caller.user.mine ≡ own self.now.caller.who self.now.caller.user.seen }
+    {
+        self.pass.who()
     }
 
     /// The shares that it holds.

@@ -6,11 +6,14 @@ mod gates;
 mod hands;
 mod pools;
 mod puts;
+mod takes;
+mod tries;
 
 pub use gates::{Gate, OpenGate};
 pub use hands::Hand;
 pub use pools::{Pool, Way};
 pub use puts::Put;
+pub use takes::Taken;
 
 #[cfg(test)]
 mod tests;

@@ -1,0 +1,53 @@
+//! Taking an item out of a pool.
+ghost use Rattle.std.specs.Prelude.{◌≡◌, ◌≤◌};
+ghost use Rattle.work_pool.specs.Ways.{takes};
+ghost use Rattle.work_pool.specs.Takes.{Works};
+
+use crate::gates::Gate;
+use crate::hands::Hand;
+use crate::pools::Pool;
+use crate::tries::Tried;
+use bay_store::Receipt;
+use std::sync::Wait;
+
+/// What a take answers.
+#[derive(Clone, Copy, Debug, PartialEq, Eq)]
+pub enum Taken {
+    /// The item, with the receipt of the try that took it.
+    Item(u64, Receipt),
+    /// The bay is quiet: no list has an item, and nobody holds a share.
+    Quiet,
+    /// The pass had made its last draw.
+    Spent,
+}
+
+impl<'a> Pool<'a> {
+    /// Tries to take an item out, by one pop of the stack or one dequeue, until it has one or the bay
+    /// is quiet, with a hand of this bay that holds at most one share. Before each try it asks the
+    /// gate with the hand's number and the number of its question. Item comes where a try took one,
+    /// and the hand then holds one share. After a try that found nothing it gives its share back and
+    /// asks whether the bay is quiet: Quiet comes where it is, and else it tries again. Spent comes
+    /// where the pass had made its last draw before a try. With Quiet and Spent the hand holds no
+    /// share. It waits for those that are let in before it to leave, and while others hold shares; it
+    /// takes no memory.
+    pub fn take<R: Wait, G: Gate>(&self, rt: &R, hand: Hand, gate: &G) -> (Hand, Taken)
+        requires own { hand.caller.site ≡ self.now.site }
+        requires few { hand.caller.user.held ≤ 1 }
+        ensures { Works self.now.blocks (takes self.now.way) hand result.0 result.1 }
+    {
+        // What it has seen of its own calls before the first try.
+        let _who = hand.who();
+        let mut hand = hand;
+        for _ in rt.forever() {
+            let (after, tried) = self.try_once(rt, hand, gate);
+            hand = after;
+            match tried {
+                Tried::Got(item, receipt) => return (hand, Taken::Item(item, receipt)),
+                Tried::Nothing => {}
+                Tried::Quiet => return (hand, Taken::Quiet),
+                Tried::Spent => return (hand, Taken::Spent),
+            }
+        }
+        unreachable!()
+    }
+}
