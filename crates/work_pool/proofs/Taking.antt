@@ -12,7 +12,7 @@ use Rattle.bay_core.specs.Noted.{entry_in, after}
 use Rattle.bay_core.specs.History.{own, GoesOn}
 use Rattle.bay_rule.specs.Leaving.{first_of}
 use Rattle.bay_rule.specs.declared.views.BayView.{BayView}
-use Rattle.bay_store.specs.Calls.{Calls, StaysOut, TakeGives}
+use Rattle.bay_store.specs.Calls.{Adds, Calls, StaysOut, TakeGives}
 use Rattle.bay_store.specs.Quiet.{hearing, hearing_quiet, IsQuietFor}
 use Rattle.bay_store.specs.Sharing.{holding, held_called}
 use Rattle.bay_store.specs.declared.receipts.Receipt.{Receipt}
@@ -95,6 +95,30 @@ none_yet op hand mine few =
       asked = ap (λ n. min (n + 1) (2 ^ 64 - 1)) (grown hand.asked);
       same = refl;
     }
+
+-- a share given back leaves what a call added
+kept : (blocks : ℕ) (op : Op) (before now : Caller BayView) (r : Receipt) → Adds blocks op 0 before now r
+    → Adds blocks op 0 before (holding now 1) r
+kept blocks op before now r a = record {
+  noted = a.noted;
+  history = a.history;
+  goes_on = a.goes_on;
+  seen = a.seen;
+  mine = a.mine;
+  all_mine = a.all_mine;
+  entry = a.entry;
+  who = a.who;
+  op_is = a.op_is;
+  arg = a.arg;
+  rank = a.rank;
+  frozen = a.frozen;
+  last = a.last;
+  lawful = a.lawful;
+  legal = a.legal;
+  first = a.first;
+  soon = a.soon;
+  since = a.since;
+}
 
 -- one try more, by the bay's call and its receipt
 module _ (blocks : ℕ) (op : Op) (before now called : Caller BayView) (es : List Entry) (r : Receipt) (so_far : SoFar op before now es) (c : Calls blocks op 0 now called r) where
@@ -206,7 +230,7 @@ module _ (blocks : ℕ) (op : Op) (before now called : Caller BayView) (es : Lis
       let then = holding called 1 in
       record {
         empty = so_far.empty;
-        says = (c.adds.op_is, c.adds.arg, is);
+        says = ((c.adds.op_is, c.adds.arg, is), now, kept blocks op now called r c.adds);
         goes_on = goes_on_more;
         mine = mine_more;
         entries = entries_more;

@@ -11,6 +11,7 @@ use Rattle.bay_core.specs.Noted.{after}
 use Rattle.bay_core.specs.History.{IsHistory, own, GoesOn}
 use Rattle.bay_rule.specs.declared.views.BayView.{BayView}
 use Rattle.bay_rule.specs.Leaving.{first_of}
+use Rattle.bay_store.specs.Calls.{Adds}
 use Rattle.room_history.specs.Told.{told}
 use Rattle.work_pool.specs.Shows.{Worker}
 use Rattle.work_pool.specs.declared.takes.Taken.{Taken}
@@ -30,7 +31,7 @@ abbrev pub held_with : Taken → ℕ
 held_with (Item item r) = 1
 held_with _ = 0
 
--- how many questions were asked after those before the tries that found nothing
+-- the questions beyond those before tries that found nothing
 abbrev pub last_question : Taken → ℕ
 last_question Quiet = 0
 last_question _ = 1
@@ -40,10 +41,11 @@ abbrev pub quiet_since : Taken → List Noted → Option ℕ → Option ℕ
 quiet_since Quiet h since = first_of since (length h)
 quiet_since _ h since = since
 
--- what the answer says by itself: an item is that of its receipt, which is of a try; quiet means
--- that no list of the legal history has an item; spent means that no draw is left
+-- What the answer says by itself. An item is what the last try took: the receipt is of that call.
+-- Quiet means that no list of the legal history has an item. Spent means that no draw is left.
 abbrev pub Says : ℕ → Op → Caller BayView → Taken → Type 0
-Says blocks op now (Item item r) = IsTry op (replies.Item item) r.entry
+Says blocks op now (Item item r) =
+    IsTry op (replies.Item item) r.entry × (before : Caller BayView) × Adds blocks op 0 before now r
 Says blocks op now Quiet =
     IsHistory Split blocks now.user.seen
     × ((after now.user.seen).stack ≡ [])

@@ -22,18 +22,19 @@ pub enum Taken {
 }
 
 impl<'a> Pool<'a> {
-    /// Tries to take an item out, by one pop of the stack or one dequeue, until it has one or the bay
-    /// is quiet, with a hand of this bay that holds at most one share. Before each try it asks the
-    /// gate with the hand's number and the number of its question. Item comes where a try took one,
-    /// and the hand then holds one share. After a try that found nothing it gives its share back and
-    /// asks whether the bay is quiet: Quiet comes where it is, and else it tries again. Spent comes
-    /// where the pass had made its last draw before a try. With Quiet and Spent the hand holds no
-    /// share. It waits for those that are let in before it to leave, and while others hold shares; it
-    /// takes no memory.
+    /// Takes an item out, with a hand of this bay that holds at most one share. It tries by one pop of
+    /// the stack or one dequeue, and before each try asks the gate with the hand's number and the
+    /// number of the question. Item comes where a try took one, and the hand then holds one share.
+    /// After a try that found nothing the hand holds none, and asks whether the bay is quiet: Quiet
+    /// comes where it is, and else it tries again. Spent comes where the pass had made its last draw
+    /// before a try; the hand then holds no share. It waits for those that are let in before it to
+    /// leave, tries on while the bay is not quiet, and takes no memory.
     pub fn take<R: Wait, G: Gate>(&self, rt: &R, hand: Hand, gate: &G) -> (Hand, Taken)
         requires own { hand.caller.site ≡ self.now.site }
         requires few { hand.caller.user.held ≤ 1 }
-        ensures { Works self.now.blocks (takes self.now.way) hand result.0 result.1 }
+        ensures works { Works self.now.blocks (takes self.now.way) hand result.0 result.1 }
+        ensures same_bay { result.0.caller.site ≡ hand.caller.site }
+        ensures few { result.0.caller.user.held ≤ 1 }
     {
         // What it has seen of its own calls before the first try.
         let _who = hand.who();

@@ -33,6 +33,7 @@ impl<'a> Pool<'a> {
         ensures tries { Tries self.now.blocks (takes self.now.way) hand.caller result.0.caller result.1 }
         ensures same { result.0 ≡ questioned hand result.0.caller }
         ensures same_bay { result.0.caller.site ≡ hand.caller.site }
+        ensures few { result.0.caller.user.held ≤ 1 }
     {
         let Hand {
             pass,
@@ -70,6 +71,7 @@ impl<'a> Pool<'a> {
         requires few { pass.user.held ≤ most_held popped }
         ensures settles { Settles self.now.blocks popped pass result.0 result.1 }
         ensures same_bay { result.0.site ≡ pass.site }
+        ensures few { result.0.user.held ≤ 1 }
     {
         let mut pass = pass;
         match popped {

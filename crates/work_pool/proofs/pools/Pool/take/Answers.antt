@@ -19,20 +19,20 @@ loop-preserved g c =
       own = tried.same_bay ∙ c.loop.invariant.own;
     }
 
-pub returns-in-Got : goal.returns-in-Got
-returns-in-Got g c =
+pub returns-in-Got-clause-works : goal.returns-in-Got-clause-works
+returns-in-Got-clause-works g c =
     let tried = c.try_once-after.ensures in
     let tries = rw c.in-Got.is at tried.tries in
     item_taken c.args.self.now.blocks (takes c.args.self.now.way) c.args.hand c.loop.hand c.try_once-after.result.0 c.loop.invariant.so_far c.in-Got.item c.in-Got.receipt tries tried.same
 
-pub returns-in-Quiet : goal.returns-in-Quiet
-returns-in-Quiet g c =
+pub returns-in-Quiet-clause-works : goal.returns-in-Quiet-clause-works
+returns-in-Quiet-clause-works g c =
     let tried = c.try_once-after.ensures in
     let tries = rw c.in-Quiet.is at tried.tries in
     found_quiet c.args.self.now.blocks (takes c.args.self.now.way) c.args.hand c.loop.hand c.try_once-after.result.0 c.loop.invariant.so_far tries tried.same
 
-pub returns-in-Spent : goal.returns-in-Spent
-returns-in-Spent g c =
+pub returns-in-Spent-clause-works : goal.returns-in-Spent-clause-works
+returns-in-Spent-clause-works g c =
     let tried = c.try_once-after.ensures in
     let tries = rw c.in-Spent.is at tried.tries in
     found_spent c.args.self.now.blocks (takes c.args.self.now.way) c.args.hand c.loop.hand c.try_once-after.result.0 c.loop.invariant.so_far tries tried.same
