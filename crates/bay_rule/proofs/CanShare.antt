@@ -1,7 +1,7 @@
 -- The steps on `live` may be made.
-use Rattle.std.proofs.Common.{◌≡◌, ℕ, suc, ◌+◌, ◌-◌, ◌*◌, ◌^◌, ◌<◌, ◌≤◌, List, [], ◌∷◌, length, get_or, refl, sym, subst, inl, inr, arith}
+use Rattle.std.proofs.Common.{◌≡◌, ℕ, ◌+◌, ◌-◌, ◌*◌, ◌^◌, ◌<◌, ◌≤◌, List, length, get_or, refl, sym, subst, inl, inr, arith}
 use Rattle.std.proofs.lemmas.Bool.{cases_lt}
-use Rattle.std.proofs.lemmas.List.Sums.{sum_by-cons}
+use Rattle.room_rule.specs.Callers.{sum_within}
 use Rattle.room_rule.specs.Steps.{CanTouch}
 use Rattle.bay_core.specs.declared.calls.Layout.TheVariants.{Split}
 use Rattle.bay_core.specs.Noted.{after}
@@ -17,8 +17,10 @@ use Rattle.bay_rule.specs.Told.{of_users, share_told, live_told, FoundQuiet}
 use Rattle.bay_rule.specs.Keeping.Seats.{found, shares_own}
 
 shares_few : (views : List BayView) → ((d : ℕ) → (view_of views d).held ≤ 2 ^ 50) → shares views ≤ 2 ^ 50 * length views
-shares_few [] h = omega arith
-shares_few (v ∷ vs) h = omega (arith, sum_by-cons (λ (y : BayView). y.held) v vs, h 0, shares_few vs (λ d. h (suc d)))
+shares_few views h =
+    let all = sum_within (λ (v : BayView). v.held) (2 ^ 50) views
+    (λ c v e. subst (λ (y : BayView). y.held ≤ 2 ^ 50) (found views c v e).1 (h c)) in
+    omega arith
 
 -- a share more
 pub can_pledge : (x : BayUse) (who held : ℕ) (v : BayView) → held ≡ v.held + 1 → 1 ≤ v.held → v.held + 1 ≤ 2 ^ 50 → CanTouch bay x who v 3 (λ n. n + 1) (λ n. n + 1 < 2 ^ 64) (of_users (share_told held))

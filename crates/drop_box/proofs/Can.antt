@@ -4,9 +4,9 @@ use Rattle.std.specs.Prelude.{◌==◌, slice_index}
 use Rattle.std.proofs.lemmas.List.Sums.{count_by-le-length}
 use Rattle.room_rule.specs.Use.{Meaning}
 use Rattle.room_rule.specs.Steps.{CanStep, CanTouch}
+use Rattle.room_rule.specs.Callers.{part_of_sum, sum_within}
 use Rattle.drop_box.specs.declared.uses.Visit.{Visit}
 use Rattle.drop_box.specs.Box.{turnstile, bell, through, box_meaning}
-use Rattle.drop_box.specs.Views.{part_of_sum, sum_within}
 use Rattle.drop_box.specs.Plays.{went_through, rang}
 
 module _ {X S : Type 0} (x : X) (who : ℕ) (v : Visit) where

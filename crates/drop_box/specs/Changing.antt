@@ -3,9 +3,9 @@ use Rattle.std.proofs.Common.{◌≡◌, ℕ, ◌+◌, ◌^◌, ◌≤◌, Bool,
 use Rattle.std.specs.Prelude.{slice_index, ◌==◌}
 use Rattle.room_core.specs.Gate.{Gate, Shut, Held, Keyed}
 use Rattle.room_rule.specs.Use.{IsAt, Slots, Content}
+use Rattle.room_rule.specs.Callers.{after_step, sum_after}
 use Rattle.drop_box.specs.declared.uses.Visit.{Visit}
 use Rattle.drop_box.specs.Box.{turnstile, bell, went, TurnstileShows, MayKeep, HasOneKeeper, Boxed}
-use Rattle.drop_box.specs.Views.{after_step, sum_after}
 
 abbrev pub one_if : Bool → ℕ
 one_if b = cond b 1 0

@@ -7,9 +7,9 @@ use Rattle.atomic_table.proofs.Lists.{at_set, set_here, set_else}
 use Rattle.room_core.specs.Gate.{without}
 use Rattle.room_rule.specs.Laws.{MovesOne}
 use Rattle.room_rule.specs.Use.{IsAt, Slots, slots_after}
+use Rattle.room_rule.specs.Callers.{at_below, one_view}
 use Rattle.drop_box.specs.declared.uses.Visit.{Visit}
 use Rattle.drop_box.specs.Box.{slot_if, Keeps, HasOneKeeper}
-use Rattle.drop_box.specs.Views.{caller_there, one_view}
 
 pub not_both : (b : Bool) → b ≡ false → b ≡ true → ⊥
 not_both b e f = let h : false ≡ true = sym e ∙ f in cc
@@ -81,7 +81,7 @@ module _ {S : Type 0} (slots : Slots S) (views : List Visit) (who : ℕ) (v afte
       (at_set views who c after k.0 k.1)
 
   keeps_here : after.keeps ≡ true → Keeps Views who
-  keeps_here e = (after, set_here views who after (caller_there views who v at), e)
+  keeps_here e = (after, set_here views who after (at_below views who v at), e)
 
   keeps_other : (c : ℕ) → c ≢ who → Keeps views c → Keeps Views c
   keeps_other c ne k = (k.0, set_else views who c after ne ∙ k.1, k.2)

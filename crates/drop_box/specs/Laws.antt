@@ -6,9 +6,9 @@ use mathlib.Core.Option.{some, none, some-injective, some-ne-none}
 use Rattle.room_core.specs.Gate.{Gate, Held, Keyed}
 use Rattle.room_rule.specs.Use.{IsAt, Meaning, UserStep, user_step, written, rewritten}
 use Rattle.room_rule.specs.Laws as law
+use Rattle.room_rule.specs.Callers.{at_below, one_view, sum_within}
 use Rattle.drop_box.specs.declared.uses.Visit.{Visit}
 use Rattle.drop_box.specs.Box.{turnstile, bell, new_visit, slot_if, Boxed, GoesThrough, BringsHome, box_meaning}
-use Rattle.drop_box.specs.Views.{caller_there, one_view, sum_within}
 use Rattle.drop_box.specs.Made.{made}
 use Rattle.drop_box.specs.Keeping.{not_both, not_leaver, kept_slot, moves_one, stays}
 use Rattle.drop_box.specs.Steps.{goes_through, brings_home, sets_back, rings_once}
@@ -26,7 +26,7 @@ module _ {X S : Type 0} where
   starts x callers s few wide each long slotted home all =
       let is_new : (c : ℕ) (v : Visit) → IsAt s.views c v → v ≡ new_visit =
       λ c v e. one_view s.views c v new_visit e
-      (all c (let t = caller_there s.views c v e in omega arith)) in
+      (all c (let t = at_below s.views c v e in omega arith)) in
       let silent : (c : ℕ) (v : Visit) → IsAt s.views c v → v.rings ≤ 0 =
       λ c v e. let r = ap (λ (w : Visit). w.rings) (is_new c v e) in omega arith in
       let keepless : (c : ℕ) (v : Visit) → IsAt s.views c v → v.keeps ≡ true → ⊥ =

@@ -1,5 +1,4 @@
 pub mod Box
-pub mod Views
 pub mod Made
 pub mod Keeping
 pub mod Changing

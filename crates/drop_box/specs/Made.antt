@@ -1,9 +1,9 @@
 -- What follows from a step that is made as said.
 use Rattle.std.proofs.Common.{◌≡◌, ℕ, ap, subst, sym, ◌∙◌}
 use Rattle.room_rule.specs.Use.{IsAt, UserStep}
+use Rattle.room_rule.specs.Callers.{one_view}
 use Rattle.drop_box.specs.declared.uses.Visit.{Visit}
 use Rattle.drop_box.specs.Box.{Makes}
-use Rattle.drop_box.specs.Views.{one_view}
 
 -- to show a fact of the step, show it of the word, the value and the view that it is said to make
 pub made : {S : Type 0} {s : UserStep S Visit} {word value : ℕ} {change : Visit → Visit}

@@ -5,9 +5,9 @@ use Rattle.std.proofs.lemmas.Bool.{cases_eq}
 use Rattle.std.proofs.lemmas.List.{get_or-set_same, get_or-set_other}
 use Rattle.room_core.specs.Gate.{Gate, Held, Keyed}
 use Rattle.room_rule.specs.Use.{Meaning, Content, written, rewritten, StandsInside, HasKey, StandsOutside}
+use Rattle.room_rule.specs.Callers.{sum_after}
 use Rattle.drop_box.specs.declared.uses.Visit.{Visit}
 use Rattle.drop_box.specs.Box.{turnstile, bell, through, TurnstileShows, Boxed, box_meaning}
-use Rattle.drop_box.specs.Views.{sum_after}
 use Rattle.drop_box.specs.Keeping.{not_both, not_kept, slot_stays, slot_leaves, slot_comes, same_keeper, new_keeper, no_keeper, moved_to}
 use Rattle.drop_box.specs.Changing.{one_if, went_same, shows_same, changed}
 

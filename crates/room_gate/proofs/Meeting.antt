@@ -1,11 +1,12 @@
 -- Two insiders that compare what they have seen have seen the same.
-use Rattle.std.proofs.Common.{◌≡◌, ◌∙◌, ℕ, zero, suc, ◌+◌, ◌-◌, ◌<◌, ◌≤◌, Some, ltb, List, [], ◌∷◌, ◌++◌, length, refl, sym, ap, subst, arith, append-nil, length-append}
-use mathlib.Core.Option.{some-injective, some-ne-none}
+use Rattle.std.proofs.Common.{◌≡◌, ◌∙◌, ℕ, suc, ◌+◌, ◌-◌, ◌≤◌, Some, ltb, List, [], ◌∷◌, ◌++◌, length, refl, sym, ap, subst, arith, append-nil, length-append}
+use mathlib.Core.Option.{some-injective}
 use Rattle.std.proofs.lemmas.Bool.{cond-false, le-ltb}
 use Rattle.std.proofs.lemmas.List.{nil_from_length}
 use Rattle.atomic_table.proofs.Lists.{at_longer}
 use Rattle.room_core.specs.declared.items.Opening.{Opening}
 use Rattle.room_rule.specs.Use.{IsAt, Meaning}
+use Rattle.room_rule.specs.Callers.{at_below}
 use Rattle.room_rule.specs.Openings.{StartsWith, longer, latest}
 use Rattle.room_rule.specs.View.{noted, learned}
 use Rattle.room_rule.specs.Told.{Seated}
@@ -14,11 +15,6 @@ use Rattle.room_rule.specs.declared.views.Shown.{Shown}
 use Rattle.room_gate.specs.InsideModel.{IsInside}
 use Rattle.room_gate.specs.Meeting.{IsIn, met}
 use Rattle.room_gate.specs.declared.stays.Inside.TheInside.{Inside}
-
-at_below : {A : Type 0} (l : List A) (i : ℕ) (a : A) → IsAt l i a → i < length l
-at_below [] i a e = absurd (some-ne-none a (sym e))
-at_below (x ∷ xs) zero a e = omega arith
-at_below (x ∷ xs) (suc i) a e = let h = at_below xs i a e in omega arith
 
 -- lists as long as each other, where what stands in the one stands there in the other
 by_places : {A : Type 0} (l n : List A) → length l ≡ length n

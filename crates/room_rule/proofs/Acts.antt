@@ -19,6 +19,7 @@ use Rattle.room_core.specs.Gate.{gate}
 use Rattle.room_core.proofs.Listed.{Sized, IsApt, touched_listed, held_listed, length-listed, place_below}
 use Rattle.room_core.proofs.Facts.{sizes, count, drawers, one_more}
 use Rattle.room_rule.specs.Use.{IsAt, Meaning, ShowsWords}
+use Rattle.room_rule.specs.Callers.{after_step}
 use Rattle.room_rule.specs.Openings.{openings_of, StartsWith}
 use Rattle.room_rule.specs.View.{moved, drawn_by}
 use Rattle.room_rule.specs.Rule.{Roll, IsCaller, Knows, is_waiting, MayStillEnter, ShowsKept, Ruled}
@@ -26,7 +27,7 @@ use Rattle.room_rule.specs.declared.rule.Plan.{Plan}
 use Rattle.room_rule.specs.declared.views.Role.{Role}
 use Rattle.room_rule.specs.declared.views.Role.TheVariants.{Maker, Pass, Note, Keeper, Gone}
 use Rattle.room_rule.specs.declared.views.Shown.{Shown}
-use Rattle.room_rule.proofs.Lists.{each_place, starts_trans, among_more, among_first}
+use Rattle.room_rule.proofs.Lists.{starts_trans, among_more, among_first}
 use Rattle.room_rule.proofs.Opened.{grown, more_openings}
 
 -- the state after an act that is accepted, and its moment
@@ -250,7 +251,7 @@ module _ {X S V : Type 0} (M : Meaning X S V) (m : ℕ) (k : Plan X) where
           few_rooms = r.few_rooms;
           roll = r.roll;
           few_made = r.few_made;
-          each = each_place (λ j d. Knows w' r.content.views r.roll j d.role d) s.views id now
+          each = after_step (λ j d. Knows w' r.content.views r.roll j d.role d) s.views id now
               (subst (λ (x : Role). Knows w' r.content.views r.roll id x now) (sym is)
               (mine_then s r id v act mv seen kept h o))
               (λ j d apart e.
@@ -266,7 +267,7 @@ module _ {X S V : Type 0} (M : Meaning X S V) (m : ℕ) (k : Plan X) where
                     ∙ u.draws;
                 user = u.user;
               };
-          kept = each_place (λ j d. ShowsKept M k.usage r.content.words d) s.views id now
+          kept = after_step (λ j d. ShowsKept M k.usage r.content.words d) s.views id now
               (λ _. shows) (λ j d _ e. r.kept j d e);
           lawful = o.lawful;
           past = λ c u e. let a = r.past c u e in

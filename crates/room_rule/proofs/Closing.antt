@@ -1,6 +1,6 @@
 -- The close: all passes go into one seat, which keeps their last views.
 use Rattle.std.proofs.Common.{◌≡◌, ◌≢◌, ℕ, zero, suc, ◌<◌, ⊎_elim, Bool, true, false, cond, eqb, Option, List, [], ◌∷◌, ◌++◌, length, map, set, sym, refl, ap, ◌∙◌, subst, arith}
-use mathlib.Core.Option.{none, some-injective, some-ne-none}
+use mathlib.Core.Option.{none, some-injective}
 use lib.ListN.{get_elem?}
 use Rattle.std.proofs.lemmas.Bool.{eq-eqb, ne_eqb}
 use Rattle.std.proofs.lemmas.List.{length-map}
@@ -16,6 +16,7 @@ use Rattle.room_core.specs.Gate.{Shut, gate}
 use Rattle.room_core.proofs.Facts.{all_out}
 use Rattle.room_core.proofs.Listed.{length-listed}
 use Rattle.room_rule.specs.Use.{IsAt, Slots, Meaning}
+use Rattle.room_rule.specs.Callers.{at_below, after_step}
 use Rattle.room_rule.specs.Laws.{IsKept, Laws}
 use Rattle.room_rule.specs.View.{keeper, gone, taken_in}
 use Rattle.room_rule.specs.Rule.{Roll, IsTakenIn, Knows, Ruled}
@@ -25,17 +26,11 @@ use Rattle.room_rule.specs.declared.views.Role.{Role}
 use Rattle.room_rule.specs.declared.views.Role.TheVariants.{Maker, Pass, Note, Keeper, Gone}
 use Rattle.room_rule.specs.declared.views.Ended.{Ended}
 use Rattle.room_rule.specs.declared.views.Shown.{Shown}
-use Rattle.room_rule.proofs.Lists.{each_place, none_there, of_map}
+use Rattle.room_rule.proofs.Lists.{none_there, of_map}
 use Rattle.room_rule.proofs.Counting.{each_is_in}
 use Rattle.room_rule.proofs.Slots.{all_home}
 use Rattle.room_rule.proofs.Acts.{Table, Rule, mine, sizes_of}
 use Rattle.room_rule.proofs.Seats.{with_views, So, Kept}
-
--- what stands there is below the end
-at_below : {A : Type 0} (l : List A) (i : ℕ) (a : A) → IsAt l i a → i < length l
-at_below [] i a e = absurd (some-ne-none a (sym e))
-at_below (x ∷ xs) zero a e = omega arith
-at_below (x ∷ xs) (suc i) a e = let q = at_below xs i a e in omega arith
 
 keeper_not : Keeper ≡ Pass → ⊥
 keeper_not e = cc
@@ -169,8 +164,8 @@ module _ {X S V : Type 0} (M : Meaning X S V) (m : ℕ) (k : Plan X) where
             (at_set s.views id j now d t.1))
             (at_set (set s.views id now) other j end d e);
         unmade = r.unmade;
-        kept = each_place (Kept M m k s r) (set s.views id now) other end (λ e. absurd (gone_not e))
-            (λ j d _ e. each_place (Kept M m k s r) s.views id now
+        kept = after_step (Kept M m k s r) (set s.views id now) other end (λ e. absurd (gone_not e))
+            (λ j d _ e. after_step (Kept M m k s r) s.views id now
             (λ f. absurd (keeper_not (sym is ∙ f))) (λ i x _ f. r.kept i x f) j d e);
         lawful = r.lawful;
         past = r.past;

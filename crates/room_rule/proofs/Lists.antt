@@ -1,20 +1,11 @@
 -- Lists by their places, and their beginnings.
-use Rattle.std.proofs.Common.{◌≡◌, ◌≢◌, ℕ, zero, suc, ◌⊎◌, ⊎_elim, inl, inr, Bool, true, false, cond, List, [], ◌∷◌, ◌++◌, length, map, set, sym, refl, ap, ◌∙◌, subst, append_assoc}
+use Rattle.std.proofs.Common.{◌≡◌, ℕ, zero, suc, ◌⊎◌, ⊎_elim, inl, inr, Bool, true, false, cond, List, [], ◌∷◌, ◌++◌, length, map, set, sym, refl, ap, ◌∙◌, append_assoc}
 use mathlib.Core.Option.{some-injective, some-ne-none}
 use lib.ListN.{get_elem?}
-use Rattle.atomic_table.proofs.Lists.{at_set, at_longer}
+use Rattle.atomic_table.proofs.Lists.{at_longer}
 use Rattle.room_core.specs.declared.items.Opening.{Opening}
 use Rattle.room_rule.specs.Use.{IsAt}
 use Rattle.room_rule.specs.Openings.{StartsWith, IsAmong}
-
--- a fact of each place holds where one place changes, if it holds of what stands there then
-pub each_place : {D : Type 0} (K : ℕ → D → Type 0) (l : List D) (i : ℕ) (w : D) → K i w
-    → ((j : ℕ) (d : D) → j ≢ i → IsAt l j d → K j d)
-    → (j : ℕ) (d : D) → IsAt (set l i w) j d → K j d
-each_place {D} K l i w here others j d e = ⊎_elim
-    (λ (t : (j ≡ i) × (w ≡ d)). subst (λ (x : ℕ × D). K x.0 x.1) (λ a. (sym t.0 a, t.1 a)) here)
-    (λ (t : (j ≢ i) × IsAt l j d). others j d t.0 t.1)
-    (at_set l i j w d e)
 
 -- what stands there can be changed
 pub there_set : {A : Type 0} (l : List A) (i : ℕ) (a b : A) → IsAt l i a → IsAt (set l i b) i b

@@ -1,18 +1,19 @@
 -- An insider finds its turn and its room in the active word.
-use Rattle.std.proofs.Common.{◌≡◌, ℕ, suc, ◌+◌, ◌*◌, ◌/◌, ◌%◌, ◌<◌, ◌≤◌, Option, List, ◌++◌, length, get_or, set, refl, sym, ap, ◌∙◌, subst, arith}
+use Rattle.std.proofs.Common.{◌≡◌, ℕ, ◌+◌, ◌<◌, ◌≤◌, Option, List, get_or, set, refl, sym, ap, ◌∙◌, subst, arith}
 use Rattle.std.proofs.lemmas.List.{set-get_or}
 use Rattle.atomic_table.specs.Table.{keeps}
 use Rattle.room_core.specs.declared.phases.Phase.{Phase}
 use Rattle.room_core.specs.declared.phases.Phase.TheVariants.{Inside}
-use Rattle.room_core.specs.Words.{listed}
 use Rattle.room_core.specs.Runs.{World, Reached}
 use Rattle.room_core.specs.Machine.{phase_of}
-use Rattle.room_core.specs.Trace.{trace, is_exiting, openings}
-use Rattle.room_core.specs.Active.{turn_of, code_of, pack}
+use Rattle.room_core.specs.Trace.{trace, is_exiting}
+use Rattle.room_core.specs.Active.{turn_of, code_of}
 use Rattle.room_core.proofs.Invariant.{ticket_of, room_of, Fits}
 use Rattle.room_core.proofs.Rows.{admitted_open, fits_at}
 use Rattle.room_core.proofs.Facts.{sound, insider, held_turn}
+use Rattle.room_core.proofs.Admitting.{length_opened}
 use Rattle.room_rule.specs.Use.{Meaning}
+use Rattle.room_rule.specs.Callers.{after_step}
 use Rattle.room_rule.specs.Openings.{openings_of}
 use Rattle.room_rule.specs.Looking.{looked_again, Finds, looked_by}
 use Rattle.room_rule.specs.Rule.{Knows}
@@ -21,9 +22,8 @@ use Rattle.room_rule.specs.declared.rule.Plan.{Plan}
 use Rattle.room_rule.specs.declared.views.Role.{Role}
 use Rattle.room_rule.specs.declared.views.Role.TheVariants.{Pass}
 use Rattle.room_rule.specs.declared.views.Shown.{Shown}
-use Rattle.room_rule.proofs.Lists.{each_place}
-use Rattle.room_rule.proofs.Opened.{numbered, length-opened}
-use Rattle.room_rule.proofs.Acts.{Table, Rule, mine}
+use Rattle.room_rule.proofs.Opened.{numbered}
+use Rattle.room_rule.proofs.Acts.{Rule, mine}
 use Rattle.room_rule.proofs.Seats.{with_views, So, Kept}
 
 module _ (m n : ℕ) (few : m ≤ 7) (crowd : n ≤ 64) (w : World) (reached : Reached m n w) where
@@ -77,7 +77,7 @@ module _ {X S V : Type 0} (M : Meaning X S V) (m : ℕ) (k : Plan X) where
         turn_is = ap turn_of found ∙ word.0;
         code_is = ap code_of found ∙ word.1;
         openings = openings_of w;
-        long = length-opened t
+        long = length_opened t
             ∙ sym (held_turn m k.callers r.few_rooms r.few_callers w r.reached room turn to
             in_it.0.now);
         numbered =
@@ -93,8 +93,8 @@ module _ {X S V : Type 0} (M : Meaning X S V) (m : ℕ) (k : Plan X) where
             (record { words = l; homes = s.homes; views = set s.views id now }))
             × (after.world ≡ w)) (sym same) (
               with_views M m k s r (set s.views id now)
-                  (each_place (So M m k s r) s.views id now so (λ j d _ e. r.each j d e))
-                  (each_place (Kept M m k s r) s.views id now (r.kept id v here) (λ j d _ e. r.kept j d e)),
+                  (after_step (So M m k s r) s.views id now so (λ j d _ e. r.each j d e))
+                  (after_step (Kept M m k s r) s.views id now (r.kept id v here) (λ j d _ e. r.kept j d e)),
               refl,
             ),
         (refl, finds),

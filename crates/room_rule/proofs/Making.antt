@@ -9,6 +9,7 @@ use Rattle.room_core.specs.Words.{listed}
 use Rattle.room_core.specs.Runs.{World, start}
 use Rattle.room_core.proofs.Apart.{outs, zeros}
 use Rattle.room_rule.specs.Use.{IsAt, Slots, Meaning}
+use Rattle.room_rule.specs.Callers.{after_step}
 use Rattle.room_rule.specs.Laws.{Laws}
 use Rattle.room_rule.specs.View.{maker, hired, after_hire}
 use Rattle.room_rule.specs.Openings.{openings_of}
@@ -17,7 +18,7 @@ use Rattle.room_rule.specs.declared.rule.Plan.{Plan}
 use Rattle.room_rule.specs.declared.views.Role.{Role}
 use Rattle.room_rule.specs.declared.views.Role.TheVariants.{Maker, Pass, Note, Keeper, Gone}
 use Rattle.room_rule.specs.declared.views.Shown.{Shown}
-use Rattle.room_rule.proofs.Lists.{each_place, at_end, only_one, none_there}
+use Rattle.room_rule.proofs.Lists.{at_end, only_one, none_there}
 use Rattle.room_rule.proofs.Slots.{all_none}
 
 -- the starting views of so many callers, from the number c on
@@ -193,7 +194,7 @@ module _ {X S V : Type 0} (M : Meaning X S V) (m : ℕ) (k : Plan X) where
         roll = roll';
         few_made = omega arith;
         each = λ j x e. ⊎_elim
-            (each_place So' s.views id (after_hire v)
+            (after_step So' s.views id (after_hire v)
             (subst (λ (z : Role). Knows w r.content.views roll' id z (after_hire v)) (sym is)
             (own, ap (λ (z : ℕ). z + 1) num))
             (λ i y apart f. still_so w r.content.views r.roll next i id own apart y.role y
@@ -204,7 +205,7 @@ module _ {X S V : Type 0} (M : Meaning X S V) (m : ℕ) (k : Plan X) where
             (at_end (set s.views id (after_hire v)) new x j e);
         unmade = λ c late under. r.unmade c (omega arith) under;
         kept = λ j x e. ⊎_elim
-            (each_place (λ i y. ShowsKept M k.usage r.content.words y) s.views id (after_hire v)
+            (after_step (λ i y. ShowsKept M k.usage r.content.words y) s.views id (after_hire v)
             (λ f. absurd (maker_not (sym is ∙ f))) (λ i y _ f. r.kept i y f) j x)
             (λ (t : (j ≡ length (set s.views id (after_hire v))) × (new ≡ x)).
             subst (λ (z : Shown V). ShowsKept M k.usage r.content.words z) t.1

@@ -1,6 +1,6 @@
 -- The one list of openings: it grows, its turns are 1, 2, 3 and so on, and the last of them
 -- admits whoever is inside.
-use Rattle.std.proofs.Common.{◌≡◌, ℕ, suc, ◌+◌, ◌-◌, ◌^◌, ◌<◌, ◌≤◌, ⊎_elim, Option, Some, None, List, [], ◌∷◌, ◌++◌, length, get_or, sym, refl, ap, ◌∙◌, subst, arith, append-nil, length-append}
+use Rattle.std.proofs.Common.{◌≡◌, ℕ, suc, ◌+◌, ◌-◌, ◌^◌, ◌<◌, ◌≤◌, ⊎_elim, Option, Some, None, List, [], ◌∷◌, ◌++◌, length, get_or, sym, refl, ap, ◌∙◌, subst, arith, append-nil}
 use mathlib.Core.Option.{some, some-injective}
 use lib.ListN.{get_elem?}
 use Rattle.std.proofs.lemmas.List.Sums.{sum_by-cons}
@@ -13,6 +13,7 @@ use Rattle.room_core.specs.Trace.{trace, onto}
 use Rattle.room_core.specs.Trace.{all_opened, openings, last_opening}
 use Rattle.room_core.proofs.Backward.{Lawful, LawfulAt}
 use Rattle.room_core.proofs.Backward.{LawfulBack}
+use Rattle.room_core.proofs.Admitting.{length_opened}
 use Rattle.room_core.specs.Runs.{Reached}
 use Rattle.room_core.proofs.Late.{onto_more}
 use Rattle.room_core.proofs.Sums.{total, waits_small}
@@ -49,17 +50,6 @@ more_openings m h =
 abbrev opening : ℕ → ℕ → ℕ → ℕ → Opening
 opening turn r from to = record { turn = turn; room = r; from = from; to = to }
 
-pub length-opened : (t : List Item) → length (all_opened t) ≡ openings t
-length-opened [] = refl
-length-opened (Opened turn r from to ∷ t) =
-    let old = length-opened t in
-    let more = length-append (all_opened t) (opening turn r from to ∷ []) in
-    omega arith
-length-opened (Entered c r ∷ t) = length-opened t
-length-opened (Left c ∷ t) = length-opened t
-length-opened (ExitBegun r ∷ t) = length-opened t
-length-opened (ExitEnded r ∷ t) = length-opened t
-
 -- the opening at each place has the next turn
 pub record IsNumbered (t : List Item) : Type 0 where
   pub turn : (i : ℕ) (o : Opening) → IsAt (all_opened t) i o → o.turn ≡ i + 1
@@ -70,7 +60,7 @@ numbered_on c h (Opened turn r from to) t law old = record {
   turn = λ i o at. ⊎_elim (λ f. old.turn i o f)
       (λ (q : (i ≡ length (all_opened t)) × (opening turn r from to ≡ o)).
       let is : turn ≡ o.turn = ap (λ (z : Opening). z.turn) q.1 in let place = q.0 in
-      let long = length-opened t in let next = law.0 in
+      let long = length_opened t in let next = law.0 in
       omega arith)
       (at_end (all_opened t) (opening turn r from to) o i at);
 }
@@ -114,7 +104,7 @@ stands_last [] o e = absurd (cc)
 stands_last (Opened turn r from to ∷ t) o e =
     let same : opening turn r from to ≡ o = cc in
     let long : length (all_opened t) ≡ openings t + 1 - 1 =
-    (let l = length-opened t in omega arith) in
+    (let l = length_opened t in omega arith) in
     record {
       there = at_last (all_opened t) (opening turn r from to) (openings t + 1 - 1) long
           ∙ ap some same;
@@ -181,7 +171,7 @@ module _ (m n : ℕ) (few : m ≤ 7) (crowd : n ≤ 64) (w : World) (reached : R
       let s = stands_last t o last in let more = s.some in
       let number : o.turn ≡ openings t - 1 + 1 =
       (numbered w.history (everything).more.lawful).turn (openings t - 1) o s.there in
-      let long : length all ≡ openings t = length-opened t in let small = openings_low in
+      let long : length all ≡ openings t = length_opened t in let small = openings_low in
       let place : o.turn - 1 ≡ openings t - 1 = omega arith in
       record {
         seen = starts;

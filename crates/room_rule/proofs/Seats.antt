@@ -3,6 +3,7 @@ use Rattle.std.proofs.Common.{◌≡◌, ℕ, ⊎_elim, ltb, List, [], ◌∷◌
 use Rattle.atomic_table.specs.Table.{Splits, Joins}
 use Rattle.atomic_table.proofs.Lists.{at_snoc, set_else}
 use Rattle.room_rule.specs.Use.{IsAt, Meaning}
+use Rattle.room_rule.specs.Callers.{after_step}
 use Rattle.room_rule.specs.Openings.{openings_of}
 use Rattle.room_rule.specs.View.{noted, learned, gone}
 use Rattle.room_rule.specs.Rule.{Knows, ShowsKept, Ruled}
@@ -10,7 +11,7 @@ use Rattle.room_rule.specs.declared.rule.Plan.{Plan}
 use Rattle.room_rule.specs.declared.views.Role.{Role}
 use Rattle.room_rule.specs.declared.views.Role.TheVariants.{Pass, Note, Gone}
 use Rattle.room_rule.specs.declared.views.Shown.{Shown}
-use Rattle.room_rule.proofs.Lists.{each_place, starts_either, among_first, among_both}
+use Rattle.room_rule.proofs.Lists.{starts_either, among_first, among_both}
 use Rattle.room_rule.proofs.Acts.{Table, Rule, mine}
 
 gone_not : Gone ≡ Pass → ⊥
@@ -73,10 +74,10 @@ module _ {X S V : Type 0} (M : Meaning X S V) (m : ℕ) (k : Plan X) where
         known = among_both all w.seen v.known (among_first all w.seen its) h.known;
       }) in
       with_views s r (set (set s.views id now) other end)
-      (each_place (So s r) (set s.views id now) other end tt
-      (λ j d _ e. each_place (So s r) s.views id now so (λ i x _ f. r.each i x f) j d e))
-      (each_place (Kept s r) (set s.views id now) other end (λ e. absurd (gone_not e))
-      (λ j d _ e. each_place (Kept s r) s.views id now (r.kept id v at)
+      (after_step (So s r) (set s.views id now) other end tt
+      (λ j d _ e. after_step (So s r) s.views id now so (λ i x _ f. r.each i x f) j d e))
+      (after_step (Kept s r) (set s.views id now) other end (λ e. absurd (gone_not e))
+      (λ j d _ e. after_step (Kept s r) s.views id now (r.kept id v at)
       (λ i x _ f. r.kept i x f) j d e))
 
   -- a note is made
@@ -84,10 +85,10 @@ module _ {X S V : Type 0} (M : Meaning X S V) (m : ℕ) (k : Plan X) where
   notes id v is s r at = let h = mine M m k s r id v at is in
       with_views s r (set s.views id v ++ noted v ∷ [])
       (λ j d e. ⊎_elim (λ f.
-      each_place (So s r) s.views id v (r.each id v at) (λ i x _ g. r.each i x g) j d f)
+      after_step (So s r) s.views id v (r.each id v at) (λ i x _ g. r.each i x g) j d f)
       (λ (t : noted v ≡ d). subst (λ (z : Shown V). So s r j z) t h.seen)
       (at_snoc (set s.views id v) (noted v) d j e))
       (λ j d e. ⊎_elim (λ f.
-      each_place (Kept s r) s.views id v (r.kept id v at) (λ i x _ g. r.kept i x g) j d f)
+      after_step (Kept s r) s.views id v (r.kept id v at) (λ i x _ g. r.kept i x g) j d f)
       (λ (t : noted v ≡ d). subst (λ (z : Shown V). Kept s r j z) t (λ e. absurd (note_not e)))
       (at_snoc (set s.views id v) (noted v) d j e))

@@ -17,6 +17,7 @@ use Rattle.room_core.specs.Gate.{Gate, Shut, Held, Keyed, gate, gate_by, inside,
 use Rattle.room_core.proofs.Listed.{length-listed}
 use Rattle.room_core.proofs.Facts.{outsider, key_elsewhere, key_turn, exiter, insider, gate_held, held_turn}
 use Rattle.room_rule.specs.Use.{IsAt, Slots, Content, Own, own, contents_of, slots_after, user_step, rewritten, written, Meaning, Outside, StandsInside, HasKey, StandsOutside, ShowsWords, user_place}
+use Rattle.room_rule.specs.Callers.{after_step}
 use Rattle.room_rule.specs.Laws.{Laws}
 use Rattle.room_rule.specs.Steps.{CanStep, CanExit, CanTouch}
 use Rattle.room_rule.specs.View.{used, keyed}
@@ -26,7 +27,7 @@ use Rattle.room_rule.specs.declared.rule.Plan.{Plan}
 use Rattle.room_rule.specs.declared.views.Role.{Role}
 use Rattle.room_rule.specs.declared.views.Role.TheVariants.{Maker, Pass, Note, Keeper, Gone}
 use Rattle.room_rule.specs.declared.views.Shown.{Shown}
-use Rattle.room_rule.proofs.Lists.{each_place, there_set}
+use Rattle.room_rule.proofs.Lists.{there_set}
 use Rattle.room_rule.proofs.Slots.{home, moves_one, same_slot, length_after}
 use Rattle.room_rule.proofs.Acts.{Table, Rule, mine, sizes_of}
 
@@ -213,7 +214,7 @@ module _ {X S V : Type 0} (M : Meaning X S V) (m : ℕ) (k : Plan X) where
           few_rooms = r.few_rooms;
           roll = r.roll;
           few_made = r.few_made;
-          each = each_place So s.views id now so
+          each = after_step So s.views id now so
               (λ j d apart e.
               others_know w r.content.views r.roll v.who id j u h.seat apart d.role d
               (r.each j d e));
@@ -226,7 +227,7 @@ module _ {X S V : Type 0} (M : Meaning X S V) (m : ℕ) (k : Plan X) where
                 user = set_else r.content.views v.who c u ne
                     ∙ q.user;
               };
-          kept = each_place (λ j d.
+          kept = after_step (λ j d.
               ShowsKept M k.usage (set r.content.words word value) d) s.views id now o.own o.others;
           lawful = o.lawful;
           past = λ c y e. ⊎_elim

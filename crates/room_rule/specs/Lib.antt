@@ -1,4 +1,5 @@
 pub mod Use
+pub mod Callers
 pub mod Laws
 pub mod Openings
 pub mod View

@@ -2,6 +2,7 @@
 use Rattle.std.proofs.Common.{◌≡◌, ◌≢◌, ℕ, ◌+◌, ◌^◌, ◌-◌, ◌*◌, ◌%◌, ◌<◌, ◌≤◌, Bool, List, [], ◌∷◌, length, get_or, set, refl, sym, ap, ◌∙◌, subst, inr, arith}
 use Rattle.std.proofs.lemmas.List.{length-set, get_or-set_other}
 use Rattle.room_core.specs.Gate.{Held}
+use Rattle.room_core.proofs.Lists.{each_set}
 use Rattle.bay_core.specs.declared.calls.Layout.TheVariants.{Split}
 use Rattle.bay_core.specs.declared.calls.Reply.{Reply}
 use Rattle.bay_core.specs.declared.calls.Noted.{Noted}
@@ -19,7 +20,7 @@ use Rattle.bay_rule.specs.Views.{idle, view_of, acted}
 use Rattle.bay_rule.specs.Ends.{TopHeld, Level, QueueHeld}
 use Rattle.bay_rule.specs.Shows.{StageFits, Seat, Filled, FilledAt, Shows}
 use Rattle.bay_rule.specs.Leaving.{noting}
-use Rattle.bay_rule.specs.Keeping.Seats.{each_set, acts_more, shares_set}
+use Rattle.bay_rule.specs.Keeping.Seats.{acts_more, shares_set}
 use Rattle.bay_rule.specs.Keeping.Stages.{Free, past_four, Keeps, stage_kept, quiet_kept}
 
 -- in room r with the word a, what the stages of the other callers rest on stays

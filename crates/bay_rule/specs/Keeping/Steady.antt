@@ -2,6 +2,7 @@
 use Rattle.std.proofs.Common.{◌≡◌, ℕ, ◌+◌, ◌^◌, ◌<◌, ◌≤◌, List, length, get_or, set, IfSome, refl, sym, ap, ◌∙◌, subst, arith}
 use Rattle.std.proofs.lemmas.List.{length-set}
 use Rattle.room_core.specs.Gate.{Gate, Shut, Held, Keyed}
+use Rattle.room_core.proofs.Lists.{each_set}
 use Rattle.bay_core.specs.declared.calls.Noted.{Noted}
 use Rattle.bay_core.specs.Noted.{after}
 use Rattle.bay_core.specs.History.{GoesOn}
@@ -12,7 +13,7 @@ use Rattle.bay_rule.specs.Views.{idle, view_of, acted}
 use Rattle.bay_rule.specs.Ends.{TopHeld, TopFits, Level, Left, QueueHeld, QueueFits}
 use Rattle.bay_rule.specs.Shows.{StageFits, Seat, Filled, FilledAt, Shows}
 use Rattle.bay_rule.specs.Leaving.{staged}
-use Rattle.bay_rule.specs.Keeping.Seats.{each_set, acts_same, shares_set, shares_own}
+use Rattle.bay_rule.specs.Keeping.Seats.{acts_same, shares_set, shares_own}
 use Rattle.bay_rule.specs.Keeping.Stages.{Keeps, stage_kept, quiet_kept}
 
 -- the step leaves `top` and who acted

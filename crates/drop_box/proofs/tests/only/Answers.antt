@@ -1,4 +1,4 @@
-use Rattle.std.proofs.Common.{◌≡◌, ◌∙◌, ◌+◌, List, [], ◌∷◌, ◌++◌, length, sym, ap, subst, refl, arith, length-append}
+use Rattle.std.proofs.Common.{◌≡◌, ◌∙◌, List, [], ◌∷◌, ◌++◌, length, sym, ap, subst, refl, arith, length-append}
 use Rattle.atomic_table.proofs.Lists.{at_last}
 use Rattle.room_rule.specs.Use.{IsAt}
 use Rattle.room_gate.specs.Shows.{newcomer}

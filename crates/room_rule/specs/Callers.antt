@@ -1,4 +1,4 @@
--- Lists of views by the callers' numbers.
+-- Lists of views by the callers' numbers: what a step changes, and sums over all callers.
 use Rattle.std.proofs.Common.{◌≡◌, ◌≢◌, ℕ, zero, suc, ◌+◌, ◌*◌, ◌<◌, ◌≤◌, ⊎_elim, ◌∙◌, suc-mul, List, [], ◌∷◌, length, get_or, set, sym, refl, ap, subst, arith}
 use mathlib.Core.Option.{some-injective, some-ne-none}
 use Rattle.std.specs.List.{sum_by}
@@ -8,15 +8,16 @@ use Rattle.room_rule.specs.Use.{IsAt}
 
 module _ {V : Type 0} where
   -- who has a view is one of the callers
-  pub caller_there : (views : List V) (who : ℕ) (v : V) → IsAt views who v → who < length views
-  caller_there [] who v e = absurd (some-ne-none v (sym e))
-  caller_there (x ∷ xs) zero v e = omega arith
-  caller_there (x ∷ xs) (suc who) v e = let r = caller_there xs who v e in omega arith
+  pub at_below : (views : List V) (who : ℕ) (v : V) → IsAt views who v → who < length views
+  at_below [] who v e = absurd (some-ne-none v (sym e))
+  at_below (x ∷ xs) zero v e = omega arith
+  at_below (x ∷ xs) (suc who) v e = let r = at_below xs who v e in omega arith
 
-  view_there : (views : List V) (who : ℕ) (v d : V) → IsAt views who v → get_or views who d ≡ v
-  view_there [] who v d e = absurd (some-ne-none v (sym e))
-  view_there (x ∷ xs) zero v d e = some-injective x v e
-  view_there (x ∷ xs) (suc who) v d e = view_there xs who v d e
+  -- and that view is what is read at its number
+  pub read_at : (views : List V) (who : ℕ) (v d : V) → IsAt views who v → get_or views who d ≡ v
+  read_at [] who v d e = absurd (some-ne-none v (sym e))
+  read_at (x ∷ xs) zero v d e = some-injective x v e
+  read_at (x ∷ xs) (suc who) v d e = read_at xs who v d e
 
   -- one caller has one view
   pub one_view : (views : List V) (who : ℕ) (v w : V) → IsAt views who v → IsAt views who w → v ≡ w
@@ -36,18 +37,18 @@ module _ {V : Type 0} where
   pub sum_after : (f : V → ℕ) (views : List V) (who : ℕ) (v after : V) → IsAt views who v
       → sum_by f (set views who after) + f v ≡ sum_by f views + f after
   sum_after f views who v after e =
-      let there = caller_there views who v e in
+      let there = at_below views who v e in
       let s = sum_by-set f views who after v there in
-      let same : f (get_or views who v) ≡ f v = ap f (view_there views who v v e) in
+      let same : f (get_or views who v) ≡ f v = ap f (read_at views who v v e) in
       omega arith
 
   -- a caller's own part is within the sum
   pub part_of_sum : (f : V → ℕ) (views : List V) (who : ℕ) (v : V) → IsAt views who v
       → f v ≤ sum_by f views
   part_of_sum f views who v e =
-      let there = caller_there views who v e in
+      let there = at_below views who v e in
       let s = get_or-le-sum_by f views who v there in
-      let same : f (get_or views who v) ≡ f v = ap f (view_there views who v v e) in
+      let same : f (get_or views who v) ≡ f v = ap f (read_at views who v v e) in
       omega arith
 
   -- a sum in which each part is at most a bound
