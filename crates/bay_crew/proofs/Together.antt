@@ -6,38 +6,22 @@ use Rattle.std.specs.declared.alloc.AllocError.{AllocError}
 use Rattle.std.proofs.lemmas.List.{length-append}
 use mathlib.Core.Option.{some-injective, some-ne-none}
 use Rattle.atomic_table.specs.Seated.{TableId}
+use Rattle.atomic_table.proofs.Lists.{at_index}
 use Rattle.room_rule.specs.Use.{IsAt}
+use Rattle.room_rule.specs.Callers.{at_below}
 use Rattle.room_gate.specs.Shows.{Caller, newcomer}
 use Rattle.room_gate.specs.Making.{ArePasses}
 use Rattle.room_gate.specs.Closing.{AreAll}
+use Rattle.room_gate.specs.Together.{EachGives}
+use Rattle.room_gate.proofs.Closing.{numbered_are_all}
+use Rattle.room_gate.proofs.Together.{thing_at, given_at}
 use Rattle.bay_rule.specs.Views.{fresh_view}
 use Rattle.bay_rule.specs.declared.views.BayView.{BayView}
-use Rattle.bay_crew.specs.Crews.{SameCaller, IsReady, EachGives, AreFrom, AreShifts}
+use Rattle.bay_crew.specs.Crews.{SameCaller, IsReady, AreFrom, AreShifts}
 use Rattle.bay_crew.specs.declared.shifts.Shift.{Shift}
 
 abbrev R : Type 0
 R = Result Shift AllocError
-
--- what stands at a place is what is read there
-at_read : {A : Type 0} (l : List A) (i : ℕ) (d : A) → i < length l → IsAt l i (slice_index_or l i d)
-at_read [] i d h = absurd (omega (arith, h))
-at_read (x ∷ xs) zero d h = refl
-at_read (x ∷ xs) (suc i) d h = at_read xs i d (omega (arith, h))
-
-read_at : {A : Type 0} (l : List A) (i : ℕ) (a d : A) → IsAt l i a → slice_index_or l i d ≡ a
-read_at [] i a d e = absurd (some-ne-none a (sym e))
-read_at (x ∷ xs) zero a d e = some-injective x a e
-read_at (x ∷ xs) (suc i) a d e = read_at xs i a d e
-
-there : {A : Type 0} (l : List A) (i : ℕ) → i < length l → (a : A) × IsAt l i a
-there [] i h = absurd (omega (arith, h))
-there (x ∷ xs) zero h = (x, refl)
-there (x ∷ xs) (suc i) h = there xs i (omega (arith, h))
-
-below : {A : Type 0} (l : List A) (i : ℕ) (a : A) → IsAt l i a → i < length l
-below [] i a e = absurd (some-ne-none a (sym e))
-below (x ∷ xs) zero a e = omega arith
-below (x ∷ xs) (suc i) a e = omega (arith, below xs i a e)
 
 abbrev pub Fresh : TableId → ℕ → ℕ → List (Caller BayView) → Type 0
 Fresh site limit callers passes = ArePasses site limit (λ who. fresh_view 1) callers passes
@@ -47,8 +31,7 @@ pub ready : (site : TableId) (limit callers : ℕ) (passes : List (Caller BayVie
     → Fresh site limit callers passes → (i : ℕ) (p : Caller BayView) → i < length passes
     → p ≡ slice_index_or passes i p → IsReady site p
 ready site limit callers passes are i p h is =
-    let at : IsAt passes i p = subst (λ (z : Caller BayView). IsAt passes i z) (sym is) (at_read passes i p h) in
-    subst (λ (z : Caller BayView). IsReady site z) (sym (are.each i p at)) (record {
+    subst (λ (z : Caller BayView). IsReady site z) (sym (are.each i p (at_index passes i p h is))) (record {
       own = refl;
       share = omega arith;
     })
@@ -81,11 +64,9 @@ pub done : (site : TableId) (limit callers : ℕ) (passes : List (Caller BayView
     → Fresh site limit callers passes → length rs ≡ length passes
     → EachGives (λ p r. IfOk r (λ s. SameCaller p s.pass)) passes rs → AreShifts site 0 rs
 done site limit callers passes rs are same each = shifts_from site 0 rs (λ i r at.
-    let long : i < length passes = omega (arith, below rs i r at, same) in
-    let p = there passes i long in
+    let p = thing_at passes i (omega (arith, at_below rs i r at, same)) in
     numbered site limit i p.0 r (are.each i p.0 p.1)
-    (subst (λ (z : Caller BayView × R). IfOk z.1 (λ s. SameCaller z.0 s.pass))
-    (λ k. (read_at passes i p.0 p.0 p.1 k, read_at rs i r r at k)) (each i p.0 r long)))
+    (given_at (λ p r. IfOk r (λ s. SameCaller p s.pass)) passes rs each i p.0 r p.1 at))
 
 -- one pass more
 pub from_more : (site : TableId) (who : ℕ) (ps : List (Caller BayView)) (p : Caller BayView)
@@ -122,10 +103,5 @@ from_at site who (suc i) (q ∷ ps) p are at =
 -- they are the passes of all callers
 pub all_back : (site : TableId) (callers : ℕ) (ps : List (Caller BayView)) → length ps ≡ callers
     → AreFrom site 0 ps → AreAll site callers ps
-all_back site callers ps many are = record {
-  many = many;
-  own = λ i p at. (from_at site 0 i ps p are at).0;
-  once = λ i j p q at bt same.
-      let a = from_at site 0 i ps p are at in let b = from_at site 0 j ps q are bt in
-      omega (arith, a.1, b.1, same);
-}
+all_back site callers ps many are = numbered_are_all site callers ps many (λ i p at.
+    let its = from_at site 0 i ps p are at in (its.0, its.1 ∙ (omega arith)))

@@ -1,5 +1,5 @@
 -- What callers that call together bring back.
-use Rattle.std.specs.Prelude.{◌≡◌, ℕ, ◌+◌, ◌<◌, ◌≤◌, List, [], ◌∷◌, length, slice_index_or, IfOk}
+use Rattle.std.specs.Prelude.{◌≡◌, ℕ, ◌+◌, ◌≤◌, List, [], ◌∷◌, IfOk}
 use Rattle.std.specs.declared.result.Result.{Result}
 use Rattle.std.specs.declared.alloc.AllocError.{AllocError}
 use Rattle.atomic_table.specs.Seated.{TableId}
@@ -17,11 +17,6 @@ pub record SameCaller (before after : Caller BayView) : Type 0 where
 pub record IsReady (site : TableId) (pass : Caller BayView) : Type 0 where
   pub own : pass.site ≡ site
   pub share : 1 ≤ pass.user.held
-
--- R holds of each thing of xs and the one at its place in ys
-abbrev pub EachGives : {A B : Type 0} → (A → B → Type 0) → List A → List B → Type 0
-EachGives {A} {B} R xs ys =
-    (i : ℕ) (d : A) (e : B) → i < length xs → R (slice_index_or xs i d) (slice_index_or ys i e)
 
 -- the passes of the callers from this number on
 abbrev pub AreFrom : TableId → ℕ → List (Caller BayView) → Type 0

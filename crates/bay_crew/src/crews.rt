@@ -1,7 +1,8 @@
 //! Callers that call at the same time, each in a thread of its own.
 ghost use Rattle.std.specs.Prelude.{◌≡◌, ℕ, ◌<◌, ◌≤◌, vec_len, slice_index_or, IfOk};
 ghost use Rattle.atomic_table.specs.Seated.{TableId};
-ghost use Rattle.bay_crew.specs.Crews.{SameCaller, IsReady, EachGives, AreFrom, AreShifts};
+ghost use Rattle.room_gate.specs.Together.{EachGives};
+ghost use Rattle.bay_crew.specs.Crews.{SameCaller, IsReady, AreFrom, AreShifts};
 
 use crate::mixes::Mix;
 use crate::shifts::{Shift, work};

@@ -78,6 +78,17 @@ ended_apart passes once i j e f at there same =
     once i j a.0 b.0 a.1 b.1
     (ap (λ (z : Ended _). z.who) a.2 ∙ same ∙ sym (ap (λ (z : Ended _). z.who) b.2))
 
+-- passes of which each has its place's number
+pub numbered_are_all : {V : Type 0} (site : TableId) (callers : ℕ) (passes : List (Caller V))
+    → length passes ≡ callers
+    → ((i : ℕ) (p : Caller V) → IsAt passes i p → (p.site ≡ site) × (p.who ≡ i))
+    → AreAll site callers passes
+numbered_are_all site callers passes many each = record {
+  many = many;
+  own = λ i p at. (each i p at).0;
+  once = λ i j p q at there same. sym (each i p at).1 ∙ same ∙ (each j q there).1;
+}
+
 -- two values that were pushed
 pub two_pushed : {A : Type 0} (a b : A) (none first both : List A) → none ≡ []
     → first ≡ none ++ a ∷ [] → both ≡ first ++ b ∷ [] → both ≡ a ∷ b ∷ []

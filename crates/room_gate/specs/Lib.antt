@@ -3,6 +3,7 @@ pub mod Entering
 pub mod Making
 pub mod Answers
 pub mod Closing
+pub mod Together
 pub mod Rows
 pub mod PassModel
 pub mod WaitingModel

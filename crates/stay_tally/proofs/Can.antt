@@ -1,11 +1,10 @@
 -- That the step may be made, in each lawful content in which its caller stands inside so.
-use Rattle.std.proofs.Common.{◌≡◌, ℕ, ◌+◌, ◌*◌, ◌^◌, ◌<◌, ◌≤◌, Option, List, length, refl, sym, subst, arith}
-use Rattle.std.specs.Prelude.{slice_index}
+use Rattle.std.proofs.Common.{◌≡◌, ℕ, ◌+◌, ◌^◌, ◌<◌, ◌≤◌, Option, refl, sym, subst, arith}
+use Rattle.room_rule.specs.Callers.{sum_within}
 use Rattle.room_rule.specs.Steps.{CanStep}
 use Rattle.stay_tally.specs.declared.uses.Tally.{Tally}
 use Rattle.stay_tally.specs.declared.uses.Stays.{Stays}
 use Rattle.stay_tally.specs.Tally.{counted_in, counts, tallied}
-use Rattle.stay_tally.specs.Sums.{sum_within}
 use Rattle.stay_tally.specs.Staying.{counted}
 
 pub can_count : (x : Tally) (who : ℕ) (v : Stays) (room turn : ℕ)

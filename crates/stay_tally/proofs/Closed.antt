@@ -3,35 +3,22 @@ use Rattle.std.proofs.Common.{◌≡◌, ℕ, zero, suc, ◌+◌, ◌<◌, ◌�
 use Rattle.std.specs.Prelude.{Option, slice_index, slice_index_or}
 use Rattle.std.specs.List.{sum_by, range_with_len}
 use Rattle.std.proofs.lemmas.List.Sums.{sum_by-cons}
-use mathlib.Core.Option.{some, some-injective, some-ne-none}
+use mathlib.Core.Option.{some-injective}
 use Rattle.atomic_table.specs.Seated.{TableId}
-use Rattle.atomic_table.proofs.Lists.{at_map}
+use Rattle.atomic_table.proofs.Lists.{at_map, at_index}
 use Rattle.room_rule.specs.Use.{IsAt}
+use Rattle.room_rule.specs.Callers.{at_below}
 use Rattle.room_gate.specs.Shows.{Caller, newcomer as new_pass}
 use Rattle.room_gate.specs.Making.{ArePasses}
 use Rattle.room_gate.specs.Closing.{AreAll, IsLeft, last_of}
+use Rattle.room_gate.specs.Together.{EachGives}
+use Rattle.room_gate.proofs.Closing.{numbered_are_all}
+use Rattle.room_gate.proofs.Together.{thing_at, given_at}
 use Rattle.stay_tally.specs.declared.uses.Tally.{Tally}
 use Rattle.stay_tally.specs.declared.uses.Stays.{Stays}
 use Rattle.stay_tally.specs.Tally.{counted_in, newcomer, tallied}
-use Rattle.stay_tally.specs.Sums.{place_below}
 use Rattle.stay_tally.specs.Laws.{none_counted}
-use Rattle.stay_tally.specs.Crews.{first_room, stays_in, all_in, HasStayed, IsReady, EachGives}
-
--- what stands at a place is what is read there
-at_read : {A : Type 0} (l : List A) (i : ℕ) (d : A) → i < length l → IsAt l i (slice_index_or l i d)
-at_read [] i d h = absurd (omega arith)
-at_read (x ∷ xs) zero d h = refl
-at_read (x ∷ xs) (suc i) d h = at_read xs i d (omega arith)
-
-read_at : {A : Type 0} (l : List A) (i : ℕ) (a d : A) → IsAt l i a → slice_index_or l i d ≡ a
-read_at [] i a d e = absurd (some-ne-none a (sym e))
-read_at (x ∷ xs) zero a d e = some-injective x a e
-read_at (x ∷ xs) (suc i) a d e = read_at xs i a d e
-
-there : {A : Type 0} (l : List A) (i : ℕ) → i < length l → (a : A) × IsAt l i a
-there [] i h = absurd (omega arith)
-there (x ∷ xs) zero h = (x, refl)
-there (x ∷ xs) (suc i) h = there xs i (omega arith)
+use Rattle.stay_tally.specs.Crews.{first_room, stays_in, all_in, HasStayed, IsReady}
 
 -- the pass of a caller that made no stay
 abbrev fresh : TableId → ℕ → ℕ → Caller Stays
@@ -43,8 +30,7 @@ pub ready : (site : TableId) (limit callers stays : ℕ) (passes : List (Caller 
     → (i : ℕ) (p : Caller Stays) → i < length passes → p ≡ slice_index_or passes i p
     → IsReady site stays p
 ready site limit callers stays passes are few most i p h is =
-    let at : IsAt passes i p = subst (λ (z : Caller Stays). IsAt passes i z) (sym is) (at_read passes i p h) in
-    let new = are.each i p at in let long = are.long in
+    let new = are.each i p (at_index passes i p h is) in let long = are.long in
     subst (λ (z : Caller Stays). IsReady site stays z) (sym new) (record {
       own = refl;
       who = omega arith;
@@ -63,24 +49,20 @@ pub done : (spread : Bool) (stays : ℕ) (site : TableId) (limit callers : ℕ)
     → EachGives (λ p. HasStayed spread (first_room spread p.who) stays p) before after
     → AreDone spread stays site limit after
 done spread stays site limit callers before after are same each i p at =
-    let below = place_below after i p at in let h : i < length before = omega arith in
-    let q = slice_index_or before i p in
-    let new : q ≡ fresh site limit i = are.each i q (at_read before i p h) in
-    subst (λ (z : Caller Stays × Caller Stays). HasStayed spread (first_room spread z.0.who) stays z.0 z.1)
-    (λ k. (new k, read_at after i p p at k)) (each i p p h)
+    let below = at_below after i p at in let q = thing_at before i (omega arith) in
+    subst (λ (z : Caller Stays). HasStayed spread (first_room spread z.who) stays z p)
+    (are.each i q.0 q.1)
+    (given_at (λ z. HasStayed spread (first_room spread z.who) stays z) before after each i q.0 p q.1 at)
 
 -- they are the passes of all callers
 pub all_back : (spread : Bool) (stays : ℕ) (site : TableId) (limit callers : ℕ)
     (passes : List (Caller Stays)) → length passes ≡ callers
     → AreDone spread stays site limit passes → AreAll site callers passes
 all_back spread stays site limit callers passes many are =
-    let who : (i : ℕ) (p : Caller Stays) → IsAt passes i p → p.who ≡ i =
-    λ i p at. ap (λ (z : Caller Stays). z.who) (are i p at).same in
-    record {
-      many = many;
-      own = λ i p at. ap (λ (z : Caller Stays). z.site) (are i p at).same;
-      once = λ i j p q at its same. sym (who i p at) ∙ same ∙ who j q its;
-    }
+    numbered_are_all site callers passes many (λ i p at. let has = are i p at in (
+      ap (λ (z : Caller Stays). z.site) has.same,
+      ap (λ (z : Caller Stays). z.who) has.same,
+    ))
 
 -- a sum over a list whose each value is known by its place
 sum_each : {A : Type 0} (f : A → ℕ) (g : ℕ → ℕ) (l : List A) (a n : ℕ) → length l ≡ n
@@ -104,8 +86,8 @@ words_left spread stays site limit callers x passes words slots many are left r 
     left.lawful.sums r h
     ∙ sum_each (counted_in r) (λ who. stays_in spread (first_room spread who) stays r) left.views 0
     callers left.crowd (λ i j v e at.
-    let below = place_below left.views i v at in let crowd = left.crowd in
-    let mine = there passes i (omega arith) in let p = mine.0 in let has = are i p mine.1 in
+    let below = at_below left.views i v at in let crowd = left.crowd in
+    let mine = thing_at passes i (omega arith) in let p = mine.0 in let has = are i p mine.1 in
     let who : p.who ≡ i = ap (λ (z : Caller Stays). z.who) has.same in
     let its : IsAt left.views i p.user = subst (λ (z : ℕ). IsAt left.views z p.user) who
     (left.each i (last_of p) (at_map last_of passes i p mine.1)) in

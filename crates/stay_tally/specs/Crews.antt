@@ -1,5 +1,5 @@
 -- What callers that make stays together count.
-use Rattle.std.specs.Prelude.{◌≡◌, ℕ, ◌+◌, ◌%◌, ◌<◌, ◌≤◌, ◌==◌, Bool, true, false, List, length, slice_index_or}
+use Rattle.std.specs.Prelude.{◌≡◌, ℕ, ◌+◌, ◌%◌, ◌<◌, ◌≤◌, ◌==◌, Bool, true, false, length}
 use Rattle.std.specs.List.{sum_by, count_by, range_with_len}
 use Rattle.atomic_table.specs.Seated.{TableId}
 use Rattle.room_gate.specs.Shows.{Caller}
@@ -45,8 +45,3 @@ pub record IsReady (site : TableId) (stays : ℕ) (pass : Caller Stays) : Type 0
   pub who : pass.who < 64
   pub draws : pass.draws + stays ≤ pass.limit
   pub wide : length pass.user.counted ≡ 4
-
--- R holds of each thing of xs and the one at its place in ys
-abbrev pub EachGives : {A B : Type 0} → (A → B → Type 0) → List A → List B → Type 0
-EachGives {A} {B} R xs ys =
-    (i : ℕ) (d : A) (e : B) → i < length xs → R (slice_index_or xs i d) (slice_index_or ys i e)

@@ -1,17 +1,14 @@
 -- The laws of the tally.
-use Rattle.std.specs.Prelude.{◌≡◌, ℕ, zero, suc, ◌+◌, ◌^◌, ◌<◌, ◌≤◌, ◌⊎◌, ◌≢◌, Bool, true, false, Option, Some, None, List, [], ◌∷◌, length, slice_index, slice_set}
-use Rattle.std.specs.List.{sum_by}
-use Rattle.std.proofs.Common.{refl, sym, ap, ◌∙◌, subst, inl, inr, ⊎_elim, arith, set, length-set, get_or-set_same}
+use Rattle.std.specs.Prelude.{◌≡◌, ℕ, zero, suc, ◌+◌, ◌^◌, ◌<◌, ◌≤◌, ◌⊎◌, ◌≢◌, true, false, Some, None, List, [], ◌∷◌, length, slice_index, slice_set}
+use Rattle.std.proofs.Common.{refl, sym, ap, ◌∙◌, subst, inl, inr, ⊎_elim, arith, length-set, get_or-set_same}
 use Rattle.std.proofs.lemmas.Bool.{cases_eq}
 use Rattle.std.proofs.lemmas.List.{get_or-set_other}
-use mathlib.Core.Option.{some-injective, some-ne-none}
-use Rattle.atomic_table.proofs.Lists.{at_set}
-use Rattle.room_core.specs.Gate.{Held}
+use mathlib.Core.Option.{some-injective}
 use Rattle.room_rule.specs.Use.{IsAt, Content}
+use Rattle.room_rule.specs.Callers.{at_below, one_view, after_step, sum_after, sum_within}
 use Rattle.room_rule.specs.Laws.{Laws, Starts, Steps}
 use Rattle.stay_tally.specs.declared.uses.Stays.{Stays}
-use Rattle.stay_tally.specs.Tally.{counted_in, IsCapped, Tallies, counts, Counts, newcomer, tallied}
-use Rattle.stay_tally.specs.Sums.{sum_set, sum_none, place_below}
+use Rattle.stay_tally.specs.Tally.{counted_in, IsCapped, Tallies, counts, newcomer, tallied}
 
 -- a newcomer counted nothing
 not_true : false ≡ true → ⊥
@@ -41,14 +38,16 @@ nil_of (x ∷ xs) h = absurd (omega arith)
 
 starts : Starts tallied
 starts x callers s few wide each long no_slot home all =
-    let views : (c : ℕ) → c < length s.views → IsAt s.views c newcomer = λ c h. all c (omega arith) in
+    let is_new : (c : ℕ) (v : Stays) → IsAt s.views c v → v ≡ newcomer = λ c v e.
+    one_view s.views c v newcomer e (all c (let there = at_below s.views c v e in omega arith)) in
     record {
       wide = wide;
       few = omega arith;
-      sums = λ r h. each r h ∙ sym (sum_none (counted_in r) newcomer s.views views (none_counted r h));
-      each = λ c v e.
-          let there = place_below s.views c v e in
-          subst IsCapped (some-injective newcomer v (sym (views c there) ∙ e)) capped_newcomer;
+      sums = λ r h.
+          let none = sum_within (counted_in r) 0 s.views (λ c v e.
+          let same = ap (counted_in r) (is_new c v e) in let zero = none_counted r h in omega arith) in
+          let word = each r h in omega arith;
+      each = λ c v e. subst IsCapped (sym (is_new c v e)) capped_newcomer;
       bare = nil_of s.slots no_slot;
     }
 
@@ -92,7 +91,7 @@ tallies_after s who r t v h at r_is later small =
       wide = length-set s.words r (slice_index s.words r + 1) ∙ wide;
       few = (let same = length-set s.views who after in let few = h.few in omega arith);
       sums = λ q q_is.
-          let sum = h.sums q q_is in let more = sum_set (counted_in q) s.views who v after at in
+          let sum = h.sums q q_is in let more = sum_after (counted_in q) s.views who v after at in
           ⊎_elim
           (λ (o : (q ≡ r) × (counted_in q after ≡ counted_in q v + 1)).
           let word = ap (λ (z : ℕ). slice_index (slice_set s.words r (slice_index s.words r + 1)) z) o.0
@@ -103,11 +102,8 @@ tallies_after s who r t v h at r_is later small =
           let word = get_or-set_other s.words r q (slice_index s.words r + 1) 0 o.0 in
           let now = o.1 in omega arith)
           (counted_now v q r t mine.wide r_is q_is);
-      each = λ c u e. ⊎_elim
-          (λ (o : (c ≡ who) × (after ≡ u)).
-          subst IsCapped o.1 (capped_after v r t mine r_is later small))
-          (λ (o : (c ≢ who) × IsAt s.views c u). h.each c u o.1)
-          (at_set s.views who c after u e);
+      each = after_step (λ c. IsCapped) s.views who after
+          (capped_after v r t mine r_is later small) (λ c u ne e. h.each c u e);
       bare = h.bare;
     }
 
@@ -128,9 +124,6 @@ steps x s room turn ins who v word value after contents h there may =
       views = slice_set s.views who z.1.1;
     })) (λ i. (is i, (value i, view i)))
     (tallies_after s who room turn v h.lawful h.view r_is later small)
-
-no_slot : {A : Type 0} (k : ℕ) (a : A) → IsAt [] k a → ⊥
-no_slot k a e = some-ne-none a (sym e)
 
 pub tallied_laws : Laws tallied
 tallied_laws = record {

@@ -1,5 +1,4 @@
 pub mod Tally
-pub mod Sums
 pub mod Laws
 pub mod Staying
 pub mod Crews

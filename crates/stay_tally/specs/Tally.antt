@@ -1,5 +1,5 @@
 -- What a tally of stays means.
-use Rattle.std.specs.Prelude.{◌≡◌, ℕ, ◌+◌, ◌^◌, ◌<◌, ◌≤◌, None, false, [], ◌∷◌, List, length, slice_index, slice_set}
+use Rattle.std.specs.Prelude.{◌≡◌, ℕ, ◌+◌, ◌^◌, ◌<◌, ◌≤◌, None, false, [], ◌∷◌, length, slice_index, slice_set}
 use Rattle.std.specs.List.{sum_by}
 use Rattle.room_core.specs.Gate.{Gate, Held}
 use Rattle.room_rule.specs.Use.{IsAt, Content, UserStep, Meaning}

@@ -1,6 +1,7 @@
 //! Callers that make their stays at the same time, each in a thread of its own.
 ghost use Rattle.std.specs.Prelude.{◌≡◌, ℕ, ◌+◌, ◌*◌, ◌^◌, ◌<◌, ◌≤◌, length, sum, slice_index, slice_index_or, vec_len, IfOk};
-ghost use Rattle.stay_tally.specs.Crews.{room_of, first_room, all_in, HasStayed, IsReady, EachGives};
+ghost use Rattle.room_gate.specs.Together.{EachGives};
+ghost use Rattle.stay_tally.specs.Crews.{room_of, first_room, all_in, HasStayed, IsReady};
 
 use crate::stays::stay;
 use crate::uses::Tally;
