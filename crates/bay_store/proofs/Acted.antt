@@ -1,12 +1,11 @@
 -- What an operation added, and the shares after it.
-use Rattle.std.proofs.Common.{◌≡◌, ◌∙◌, ℕ, ◌+◌, ◌-◌, ◌≤◌, true, false, List, ◌∷◌, Some, refl, sym, ap, subst, arith}
+use Rattle.std.proofs.Common.{◌≡◌, ◌∙◌, ℕ, ◌+◌, ◌≤◌, true, false, ◌∷◌, Some, refl, sym, ap, subst, arith}
 use Rattle.room_gate.specs.Shows.{Caller}
 use Rattle.bay_core.specs.declared.calls.Layout.TheVariants.{Split}
 use Rattle.bay_core.specs.declared.calls.Op.{Op}
 use Rattle.bay_core.specs.declared.calls.Op.TheVariants.{Push, Pop, Enq, Deq}
 use Rattle.bay_core.specs.declared.calls.Reply.{Reply}
 use Rattle.bay_core.specs.declared.calls.Reply.TheVariants.{Done, Full, Item, Empty}
-use Rattle.bay_core.specs.declared.calls.Noted.{Noted}
 use Rattle.bay_core.specs.Contents.{Contents}
 use Rattle.bay_core.specs.Lawful.{Lawful}
 use Rattle.bay_core.specs.Noted.{reply_in, entry_of, after}

@@ -1,5 +1,5 @@
 -- A whole call, by what its parts left.
-use Rattle.std.proofs.Common.{◌≡◌, ◌∙◌, ℕ, ◌+◌, ◌-◌, ◌<◌, Bool, Option, List, refl, sym, ap, subst, arith}
+use Rattle.std.proofs.Common.{◌≡◌, ◌∙◌, ℕ, ◌+◌, ◌<◌, Option, List, refl, sym, ap, subst, arith}
 use Rattle.room_core.specs.declared.items.Opening.{Opening}
 use Rattle.room_gate.specs.Shows.{Caller}
 use Rattle.bay_core.specs.declared.calls.Layout.TheVariants.{Split}
@@ -13,7 +13,7 @@ use Rattle.bay_core.specs.Noted.{after}
 use Rattle.bay_rule.specs.declared.views.BayView.{BayView}
 use Rattle.bay_store.specs.Shows.{Actor, Leaver}
 use Rattle.bay_store.specs.Sharing.{held_asking, held_acted, owes_after, held_leaving, held_called, holding}
-use Rattle.bay_store.specs.Asking.{asking, GoesInto}
+use Rattle.bay_store.specs.Asking.{GoesInto}
 use Rattle.bay_store.specs.Calls.{Adds, IsActed, Calls}
 use Rattle.bay_store.specs.declared.receipts.Receipt.{Receipt}
 

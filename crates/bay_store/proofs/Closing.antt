@@ -1,6 +1,5 @@
 -- What is left of a bay whose rooms were closed.
-use Rattle.std.proofs.Common.{◌≡◌, ℕ, ◌+◌, ◌-◌, ◌*◌, ◌^◌, ◌<◌, ◌≤◌, List, [], ◌∷◌, map, length, get_or, Option, sym, ap, ◌∙◌, subst, refl, arith}
-use Rattle.std.specs.List.{sum_by}
+use Rattle.std.proofs.Common.{◌≡◌, ℕ, ◌+◌, ◌-◌, ◌^◌, ◌<◌, List, map, length, get_or, Option, sym, ap, ◌∙◌, subst, arith}
 use Rattle.std.proofs.lemmas.List.{length-map}
 use Rattle.std.proofs.lemmas.List.Folds.{fold-map}
 use Rattle.std.proofs.lemmas.Grind.{same_number_lists}
@@ -17,7 +16,6 @@ use Rattle.bay_core.specs.declared.calls.Noted.{Noted}
 use Rattle.bay_core.specs.Noted.{after}
 use Rattle.bay_rule.specs.declared.bay_use.BayUse.{BayUse}
 use Rattle.bay_rule.specs.declared.views.BayView.{BayView}
-use Rattle.bay_rule.specs.Views.{shares}
 use Rattle.bay_rule.specs.Bay.{bay, Rests}
 use Rattle.bay_rule.specs.Words.{queue_word}
 use Rattle.bay_rule.specs.HasHistory.{HasHistory}

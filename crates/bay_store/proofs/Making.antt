@@ -1,5 +1,5 @@
 -- The passes of a new bay.
-use Rattle.std.proofs.Common.{◌≡◌, ℕ, zero, suc, List, [], ◌∷◌, refl, sym, subst}
+use Rattle.std.proofs.Common.{◌≡◌, ℕ, suc, List, [], ◌∷◌, refl, sym, subst}
 use Rattle.atomic_table.specs.Seated.{TableId}
 use Rattle.room_rule.specs.Use.{IsAt}
 use Rattle.room_gate.specs.Shows.{Caller, newcomer}

@@ -1,4 +1,4 @@
-use Rattle.std.proofs.Common.{◌≡◌, ℕ, ◌+◌, ◌-◌, ◌≤◌, get_or, ap, arith}
+use Rattle.std.proofs.Common.{◌≡◌, ℕ, ◌+◌, ◌-◌, get_or, ap, arith}
 use Rattle.bay_rule.specs.Words.{queue_word}
 use Rattle.bay_store.proofs.Reading.{read_none, read_more, read_as, word_of_position}
 use Rattle.bay_store.proofs.closes.queue_from.Goals as goal

@@ -1,4 +1,4 @@
-use Rattle.std.proofs.Common.{ℕ, ◌+◌, ◌-◌, ◌≤◌, vec_capacity}
+use Rattle.std.proofs.Common.{◌+◌, ◌-◌, ◌≤◌, vec_capacity}
 use Rattle.bay_rule.specs.Words.{queue_word}
 use Rattle.bay_store.specs.Closing.{AreRead}
 use Rattle.bay_store.proofs.closes.queue_from.Given as goal

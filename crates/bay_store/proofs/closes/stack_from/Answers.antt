@@ -1,4 +1,4 @@
-use Rattle.std.proofs.Common.{◌≡◌, ℕ, ◌+◌, ◌≤◌, refl, arith}
+use Rattle.std.proofs.Common.{ℕ, ◌+◌, refl, arith}
 use Rattle.bay_store.specs.Closing.{stack_word}
 use Rattle.bay_store.proofs.Reading.{read_none, read_more, read_as}
 use Rattle.bay_store.proofs.closes.stack_from.Goals as goal

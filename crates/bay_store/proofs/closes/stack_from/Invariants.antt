@@ -1,4 +1,4 @@
-use Rattle.std.proofs.Common.{ℕ, ◌≤◌, vec_capacity}
+use Rattle.std.proofs.Common.{◌≤◌, vec_capacity}
 use Rattle.bay_store.specs.Closing.{stack_word, AreRead}
 use Rattle.bay_store.proofs.closes.stack_from.Given as goal
 

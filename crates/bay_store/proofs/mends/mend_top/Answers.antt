@@ -1,4 +1,4 @@
-use Rattle.std.proofs.Common.{◌≡◌, ◌∙◌, sym, ap, arith, get_or}
+use Rattle.std.proofs.Common.{◌∙◌, sym, ap, arith, get_or}
 use Rattle.bay_rule.specs.declared.bay_use.BayUse.{BayUse}
 use Rattle.bay_rule.proofs.CanExit.{can_lower, can_raise}
 use Rattle.bay_store.proofs.mends.mend_top.Goals as goal

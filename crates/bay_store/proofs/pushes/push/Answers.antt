@@ -1,4 +1,4 @@
-use Rattle.std.proofs.Common.{◌≡◌, ◌∙◌, ◌+◌, inl, inr, true, false, refl, sym, ap, arith}
+use Rattle.std.proofs.Common.{◌∙◌, inl, inr, true, false, refl, sym, ap, arith}
 use Rattle.bay_rule.specs.declared.bay_use.BayUse.{BayUse}
 use Rattle.bay_rule.proofs.Answering.{stage_of, pushed_full, pushed_done}
 use Rattle.bay_rule.proofs.CanPush.{can_push}

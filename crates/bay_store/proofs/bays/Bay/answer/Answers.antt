@@ -1,7 +1,7 @@
-use Rattle.std.proofs.Common.{◌≡◌, ◌∙◌, ℕ, ◌+◌, ◌≤◌, sym, ap, subst, arith}
+use Rattle.std.proofs.Common.{◌≡◌, ◌∙◌, ℕ, ◌≤◌, sym, ap, subst, arith}
 use Rattle.bay_core.specs.History.{own}
 use Rattle.bay_store.specs.Sharing.{MayAct, held_acted}
-use Rattle.bay_store.proofs.Acted.{Fit, fits, adds}
+use Rattle.bay_store.proofs.Acted.{fits}
 use Rattle.bay_store.proofs.bays.Bay.answer.Goals as goal
 
 pub invariant_of-done : goal.invariant_of-done
