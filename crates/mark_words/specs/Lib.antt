@@ -1,0 +1,10 @@
+pub mod Bits
+pub mod View
+pub mod Rule
+pub mod Told
+pub mod Shows
+pub mod Making
+pub mod Closing
+pub mod Ending
+pub mod SeatModel
+pub mod ClaimsModel

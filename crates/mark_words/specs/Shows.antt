@@ -1,0 +1,27 @@
+-- What contracts see of claims and of their seats.
+use Rattle.std.specs.Prelude.{ℕ, Bool, if◌then◌else◌, List, [], ◌∷◌}
+use Rattle.atomic_table.specs.Seated.{TableId}
+
+-- Claims: which set-up it is, and how many bits and seats it has
+pub record Site : Type 0 where
+  pub site : TableId
+  pub bits : ℕ
+  pub seats : ℕ
+
+-- A seat: its set-up, its number there, and the bits that it won and found set, newest first
+pub record Claimant : Type 0 where
+  pub site : TableId
+  pub number : ℕ
+  pub won : List ℕ
+  pub found : List ℕ
+
+-- a seat that claimed nothing
+abbrev pub newcomer : TableId → ℕ → Claimant
+newcomer site number = record { site = site; number = number; won = []; found = [] }
+
+-- a seat after a claim of the bit, which answered so
+abbrev pub claimed : ℕ → Bool → Claimant → Claimant
+claimed b answer c = record c {
+  won = if answer then b ∷ c.won else c.won;
+  found = if answer then c.found else b ∷ c.found;
+}

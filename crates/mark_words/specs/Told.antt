@@ -1,0 +1,13 @@
+-- What a claim tells the seat that makes it.
+use Rattle.std.specs.Prelude.{◌≡◌, ℕ, ◌/◌, ◌%◌, ◌^◌}
+use Rattle.std.specs.Int.{bit_at}
+use Rattle.atomic_table.specs.Table.{Me, Step}
+use Rattle.mark_words.specs.View.{claims}
+use Rattle.mark_words.specs.declared.views.Known.{Known}
+
+-- whichever bit it is whose word and mask the step has, the seat shows that it claimed it
+pub record Claimed {S : Type 0} (step : Step S) (before : Me S Known) (found : ℕ)
+    (after : Me S Known) : Type 0 where
+  pub view : (b : ℕ) → step.word ≡ b / 64 → step.first ≡ 2 ^ (b % 64)
+      → after.0 ≡ claims b (bit_at found (b % 64)) before.0
+  pub slots : after.1 ≡ before.1

@@ -1,0 +1,33 @@
+-- What a seat knows at first, and after each kind of step.
+use Rattle.std.specs.Prelude.{ℕ, zero, suc, ◌+◌, ◌-◌, [], ◌∷◌, ◌++◌}
+use Rattle.mark_words.specs.declared.rule.Plan.{Plan}
+use Rattle.mark_words.specs.declared.views.Known.{Known}
+
+-- the seat that makes the others: it has all the parts
+abbrev pub maker : Plan → Known
+maker k = record { number = 0; parts = k.seats; won = []; found = [] }
+
+-- it has made one more
+abbrev pub after_hire : Known → Known
+after_hire v = record v { number = v.number + 1; parts = v.parts - 1 }
+
+-- the one that it made
+abbrev pub hired : Known → Known
+hired v = record { number = v.number; parts = 1; won = []; found = [] }
+
+-- a seat with no part, that won nothing and found nothing
+abbrev pub nobody : Known
+nobody = record { number = 0; parts = 0; won = []; found = [] }
+
+-- a seat takes in another
+abbrev pub taken_in : Known → Known → Known
+taken_in v w = record v {
+  parts = v.parts + w.parts;
+  won = w.won ++ v.won;
+  found = w.found ++ v.found;
+}
+
+-- a seat claims the bit, which was 0 or 1
+abbrev pub claims : ℕ → ℕ → Known → Known
+claims b zero v = record v { won = b ∷ v.won }
+claims b (suc _) v = record v { found = b ∷ v.found }

@@ -1,0 +1,14 @@
+//! What a seat of the table knows. No value of it is made by a running program.
+use std::collections::LinkedList;
+
+/// The view of one seat.
+pub struct Known {
+    pub number: u32,
+    /// How many seats of the set-up it stands for: 1 for a seat that claims, those still to be made
+    /// for the seat that makes them, and those taken in at the close.
+    pub parts: u32,
+    /// The bits that it won, newest first.
+    pub won: LinkedList<u32>,
+    /// The bits that it found set, newest first.
+    pub found: LinkedList<u32>,
+}
