@@ -9,10 +9,16 @@ use mathlib.Core.List.{reverse_aux}
 use Rattle.std.proofs.lemmas.List.{length-map}
 use Rattle.std.proofs.lemmas.List.Elements.{All-from_recursion}
 use Rattle.atomic_table.specs.Seated.{TableId}
+use Rattle.atomic_table.proofs.Lists.{at_index, at_map}
 use Rattle.room_rule.specs.Use.{IsAt}
+use Rattle.room_rule.specs.Callers.{at_below, read_at, one_view}
+use Rattle.room_rule.proofs.Lists.{of_map}
 use Rattle.room_gate.specs.Shows.{Caller, newcomer}
 use Rattle.room_gate.specs.Making.{ArePasses}
 use Rattle.room_gate.specs.Closing.{AreAll}
+use Rattle.room_gate.specs.Together.{EachGives}
+use Rattle.room_gate.proofs.Closing.{numbered_are_all}
+use Rattle.room_gate.proofs.Together.{thing_at, given_at}
 use Rattle.bay_core.specs.declared.calls.Layout.{Layout}
 use Rattle.bay_core.specs.declared.calls.Layout.TheVariants.{Split}
 use Rattle.bay_core.specs.declared.calls.Entry.{Entry}
@@ -29,10 +35,9 @@ use Rattle.room_script.specs.declared.trials.Trial.{Trial}
 use Rattle.room_script.specs.Trials.{Outline, outline_of}
 use Rattle.room_trial.specs.Scripts.{asked}
 use Rattle.room_trial.specs.Callers.{Answers}
-use Rattle.room_trial.specs.Crews.{IsReady, EndsWell, EachGives}
+use Rattle.room_trial.specs.Crews.{IsReady, EndsWell}
 use Rattle.room_trial.specs.Histories.{script_of, AreAnswers, AreOfOneBay}
 use Rattle.room_trial.specs.declared.callers.CallerEnd.{CallerEnd}
-use Rattle.room_trial.proofs.Places.{there, below, read_at, at_read, at_map, one_at}
 use Rattle.room_history.proofs.Telling.{told_same}
 
 abbrev pub Fresh : TableId → ℕ → ℕ → List (Caller BayView) → Type 0
@@ -47,8 +52,7 @@ pub ready : (site : TableId) (limit callers : ℕ) (passes : List (Caller BayVie
     → Fresh site limit callers passes → (i : ℕ) (p : Caller BayView) → i < length passes
     → p ≡ slice_index_or passes i p → IsReady site callers p
 ready site limit callers passes are i p h is =
-    let at : IsAt passes i p = subst (λ (z : Caller BayView). IsAt passes i z) (sym is) (at_read passes i p h) in
-    subst (λ (z : Caller BayView). IsReady site callers z) (sym (are.each i p at)) (record {
+    subst (λ (z : Caller BayView). IsReady site callers z) (sym (are.each i p (at_index passes i p h is))) (record {
       own = refl;
       who = omega (arith, h, are.long);
       share = omega arith;
@@ -117,15 +121,12 @@ module _ (site : TableId) (o : Outline) (passes back : List (Caller BayView)) (e
   ended : (i : ℕ) (e : CallerEnd) (es : Vec Entry) → IsAt ends i e → IsAt lists i es
       → Answers (script_of o i) (new_pass site o.draws i) e.pass es.items
   ended i e es at its =
-      let within : i < length passes = omega (arith, below ends i e at, all.same) in
-      let p = there passes i within in
-      let found : e.entries ≡ Ok es = one_at (map (λ end. end.entries) ends) i e.entries (Ok es)
+      let p = thing_at passes i (omega (arith, at_below ends i e at, all.same)) in
+      let found : e.entries ≡ Ok es = one_view (map (λ end. end.entries) ends) i e.entries (Ok es)
       (at_map (λ (end : CallerEnd). end.entries) ends i e at)
       (subst (λ (l : List (Result (Vec Entry) AllocError)). IsAt l i (Ok es)) all.parted_entries
-      (at_map (λ (list : Vec Entry). Ok list) lists i es its)) in
-      let well : EndsWell o.scripts p.0 e =
-      subst (λ (z : Caller BayView × CallerEnd). EndsWell o.scripts z.0 z.1)
-      (λ k. (read_at passes i p.0 p.0 p.1 k, read_at ends i e e at k)) (all.each i p.0 e within) in
+      (at_map (λ (list : Vec Entry). some_list list) lists i es its)) in
+      let well = given_at (EndsWell o.scripts) passes ends all.each i p.0 e p.1 at in
       let mine : Answers (script_of o p.0.who) p.0 e.pass es.items =
       subst (λ (r : Result (Vec Entry) AllocError). IfOk r (λ v. Answers (script_of o p.0.who) p.0 e.pass v.items)) found well in
       subst (λ (z : Caller BayView). Answers (script_of o z.who) z e.pass es.items) (all.fresh.each i p.0 p.1) mine
@@ -134,13 +135,10 @@ module _ (site : TableId) (o : Outline) (passes back : List (Caller BayView)) (e
   came : (i : ℕ) (p : Caller BayView) → IsAt back i p
       → (es : Vec Entry) × IsAt lists i es × Answers (script_of o i) (new_pass site o.draws i) p es.items
   came i p at =
-      let within : i < length ends = omega (arith, below back i p at, long_back, all.same, all.fresh.long) in
-      let e = there ends i within in
-      let its : p ≡ e.0.pass = one_at back i p e.0.pass at
-      (subst (λ (l : List (Caller BayView)). IsAt l i e.0.pass) (sym all.parted_passes)
-      (at_map (λ (end : CallerEnd). end.pass) ends i e.0 e.1)) in
-      let es = there lists i (omega (arith, within, all.same, all.fresh.long, long_lists)) in
-      (es.0, es.1, subst (λ (z : Caller BayView). Answers (script_of o i) (new_pass site o.draws i) z es.0.items) (sym its) (ended i e.0 es.0 e.1 es.1))
+      let e = of_map (λ (end : CallerEnd). end.pass) ends i p
+      (subst (λ (l : List (Caller BayView)). IsAt l i p) all.parted_passes at) in
+      let es = thing_at lists i (omega (arith, at_below ends i e.0 e.1, all.same, all.fresh.long, long_lists)) in
+      (es.0, es.1, subst (λ (z : Caller BayView). Answers (script_of o i) (new_pass site o.draws i) z es.0.items) e.2 (ended i e.0 es.0 e.1 es.1))
 
   -- each pass is of its caller
   its_own : (i : ℕ) (p : Caller BayView) → IsAt back i p → (p.site ≡ site) × (p.who ≡ i)
@@ -150,20 +148,16 @@ module _ (site : TableId) (o : Outline) (passes back : List (Caller BayView)) (e
 
   -- the passes that came back are those of all callers
   pub all_back : AreAll site callers back
-  all_back = record {
-    many = long_back;
-    own = λ i p at. (its_own i p at).0;
-    once = λ i j p q at bt is. sym (its_own i p at).1 ∙ (is ∙ (its_own j q bt).1);
-  }
+  all_back = numbered_are_all site callers back long_back its_own
 
   module _ (closed : Closed) (is : IsClosed o.blocks callers back closed) where
     -- the list of a caller has its entries in the history
     its_entries : (i : ℕ) (es : Vec Entry) → i < callers → IsAt lists i es
         → (es.items ≡ told i is.history) × AreAnswers o i es.items
     its_entries i es within at =
-        let p = there back i (omega (arith, within, long_back)) in
+        let p = thing_at back i (omega (arith, within, long_back)) in
         let of = came i p.0 p.1 in
-        let one : of.0 ≡ es = one_at lists i of.0 es of.1 at in
+        let one : of.0 ≡ es = one_view lists i of.0 es of.1 at in
         let did : Answers (script_of o i) (new_pass site o.draws i) p.0 es.items =
         subst (λ (v : Vec Entry). Answers (script_of o i) (new_pass site o.draws i) p.0 v.items) one of.2 in
         let who : p.0.who ≡ i = (its_own i p.0 p.1).1 in
@@ -180,7 +174,7 @@ module _ (site : TableId) (o : Outline) (passes back : List (Caller BayView)) (e
       own = record {
         own = λ i within.
             let fits : i < callers = omega (arith, within, length-map lists (λ (list : Vec Entry). list.items), long_lists) in
-            let es = there lists i (omega (arith, fits, long_lists)) in
+            let es = thing_at lists i (omega (arith, fits, long_lists)) in
             read_at (map (λ list. list.items) lists) i es.0.items [] (at_map (λ (list : Vec Entry). list.items) lists i es.0 es.1)
             ∙ (its_entries i es.0 fits es.1).0;
         callers = All-from_recursion (λ e. e.who < length (map (λ list. list.items) lists)) (reverse (entries is.history))
@@ -191,7 +185,7 @@ module _ (site : TableId) (o : Outline) (passes back : List (Caller BayView)) (e
       };
       many = length-map lists (λ (list : Vec Entry). list.items) ∙ long_lists;
       answers = λ i within.
-          let es = there lists i (omega (arith, within, long_lists)) in
+          let es = thing_at lists i (omega (arith, within, long_lists)) in
           let read : get_or (map (λ list. list.items) lists) i [] ≡ es.0.items =
           read_at (map (λ list. list.items) lists) i es.0.items [] (at_map (λ (list : Vec Entry). list.items) lists i es.0 es.1) in
           subst (AreAnswers o i) (sym read) (its_entries i es.0 within es.1).1;

@@ -1,5 +1,5 @@
 -- What callers that run together bring back.
-use Rattle.std.specs.Prelude.{◌≡◌, ℕ, ◌<◌, ◌≤◌, List, [], length, slice_index_or, IfOk}
+use Rattle.std.specs.Prelude.{◌≡◌, ℕ, ◌<◌, ◌≤◌, List, [], slice_index_or, IfOk}
 use Rattle.atomic_table.specs.Seated.{TableId}
 use Rattle.room_gate.specs.Shows.{Caller}
 use Rattle.bay_rule.specs.declared.views.BayView.{BayView}
@@ -17,8 +17,3 @@ pub record IsReady (site : TableId) (callers : ℕ) (pass : Caller BayView) : Ty
 abbrev pub EndsWell : List (List Line) → Caller BayView → CallerEnd → Type 0
 EndsWell scripts pass end =
     IfOk end.entries (λ es. Answers (slice_index_or scripts pass.who []) pass end.pass es.items)
-
--- R holds of each thing of xs and the one at its place in ys
-abbrev pub EachGives : {A B : Type 0} → (A → B → Type 0) → List A → List B → Type 0
-EachGives {A} {B} R xs ys =
-    (i : ℕ) (d : A) (e : B) → i < length xs → R (slice_index_or xs i d) (slice_index_or ys i e)

@@ -1,7 +1,8 @@
 //! The callers of a trial, each in a thread of its own.
 ghost use Rattle.std.specs.Prelude.{◌≡◌, ℕ, ◌<◌, length, map, vec_len, slice_index_or, Ok, IfOk};
 ghost use Rattle.room_script.specs.Trials.{outline_of, IsWithin};
-ghost use Rattle.room_trial.specs.Crews.{IsReady, EndsWell, EachGives};
+ghost use Rattle.room_gate.specs.Together.{EachGives};
+ghost use Rattle.room_trial.specs.Crews.{IsReady, EndsWell};
 ghost use Rattle.room_trial.specs.Histories.{AreOfOneBay};
 
 use crate::callers::{CallerEnd, trial_caller};
