@@ -1,7 +1,6 @@
 //! The close: all seats go into one, and the table is opened up.
 ghost use Rattle.std.specs.Prelude.{◌≡◌, ℕ, ◌+◌, ◌/◌, ◌<◌, ◌≤◌, [], ◌++◌, vec_capacity, IfOk, IfErr};
 ghost use Rattle.std.specs.Slots.{slots_items, slots_len, IsFull};
-ghost use Rattle.mark_words.specs.Bits.{bit_of};
 ghost use Rattle.mark_words.specs.Rule.{IsAt};
 ghost use Rattle.mark_words.specs.Shows.{Claimant};
 ghost use Rattle.mark_words.specs.Closing.{AreAll, IsTold};

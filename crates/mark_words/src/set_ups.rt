@@ -1,5 +1,5 @@
 //! A set-up of claims: its table, and all its seats.
-ghost use Rattle.std.specs.Prelude.{◌≡◌, ℕ, ◌^◌, ◌≤◌, [], IfOk};
+ghost use Rattle.std.specs.Prelude.{◌≡◌, ◌^◌, ◌≤◌, [], IfOk};
 ghost use Rattle.mark_words.specs.Making.{AreSeats};
 
 use crate::plays::Hires;
