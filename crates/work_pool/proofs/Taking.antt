@@ -4,25 +4,21 @@ use Rattle.std.proofs.lemmas.List.{append-nil, append_assoc, length-append}
 use Rattle.std.proofs.lemmas.List.Elements.{All-nil, All-cons, All-append}
 use Rattle.room_gate.specs.Shows.{Caller}
 use Rattle.bay_core.specs.declared.calls.Op.{Op}
-use Rattle.bay_core.specs.declared.calls.Reply.{Reply}
 use Rattle.bay_core.specs.declared.calls.Reply.TheVariants as replies
 use Rattle.bay_core.specs.declared.calls.Entry.{Entry}
 use Rattle.bay_core.specs.declared.calls.Noted.{Noted}
-use Rattle.bay_core.specs.Noted.{entry_in, after}
 use Rattle.bay_core.specs.History.{own, GoesOn}
 use Rattle.bay_rule.specs.Leaving.{first_of}
 use Rattle.bay_rule.specs.declared.views.BayView.{BayView}
-use Rattle.bay_store.specs.Calls.{Adds, Calls, StaysOut, TakeGives}
+use Rattle.bay_store.specs.Calls.{Adds, Calls, TakeGives}
 use Rattle.bay_store.specs.Quiet.{hearing, hearing_quiet, IsQuietFor}
 use Rattle.bay_store.specs.Sharing.{holding, held_called}
 use Rattle.bay_store.specs.declared.receipts.Receipt.{Receipt}
-use Rattle.bay_store.specs.declared.receipts.Popped.TheVariants as popped
 use Rattle.room_history.specs.Told.{told}
 use Rattle.room_history.proofs.Telling.{told_more, told_same, goes_further}
 use Rattle.work_pool.specs.Shows.{Worker}
 use Rattle.work_pool.specs.Takes.{IsTry, Takes, Works}
 use Rattle.work_pool.specs.Tries.{Tries, questioned}
-use Rattle.work_pool.specs.declared.takes.Taken.{Taken}
 use Rattle.work_pool.specs.declared.takes.Taken.TheVariants.{Item, Quiet, Spent}
 use Rattle.work_pool.specs.declared.tries.Tried.TheVariants as tried
 

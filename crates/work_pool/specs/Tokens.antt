@@ -1,5 +1,4 @@
 -- Pools and hands by their fields.
-use Rattle.std.specs.Prelude.{ℕ, ◌^◌, ◌<◌}
 use Rattle.work_pool.specs.Shows.{Shared, Worker}
 use Rattle.work_pool.specs.declared.pools.Pool.TheInside as pool
 use Rattle.work_pool.specs.declared.hands.Hand.TheInside as hand

@@ -1,6 +1,5 @@
-use Rattle.std.proofs.Common.{◌≡◌, ◌∙◌, subst}
+use Rattle.std.proofs.Common.{◌∙◌}
 use Rattle.work_pool.specs.Ways.{takes}
-use Rattle.work_pool.specs.Tries.{Tries}
 use Rattle.work_pool.proofs.Taking.{none_yet, item_taken, found_quiet, found_spent, still_trying}
 use Rattle.work_pool.proofs.pools.Pool.take.Goals as goal
 
