@@ -1,3 +1,6 @@
 pub mod Spelling
 pub mod Header
 pub mod Once
+pub mod Drawing
+pub mod ObjectWords
+pub mod Lawful

@@ -1,5 +1,5 @@
 -- Bytes are of at most one image, or have a fault, but not both.
-use Rattle.std.proofs.Common.{◌≡◌, ℕ, ◌+◌, ◌-◌, ◌*◌, ◌<◌, ◌≤◌, ◌^◌, inl, inr, List, refl, sym, ap, subst, ◌∙◌, arith, get_or, length, take, Result, Ok, Err}
+use Rattle.std.proofs.Common.{◌≡◌, ℕ, inl, inr, List, refl, sym, ap, subst, ◌∙◌, arith, get_or, length, Result, Ok, Err}
 use Rattle.std.proofs.lemmas.List.{get_or-take}
 use Rattle.image_core.specs.Heap.{Heap, IsHeapOf}
 use Rattle.image_core.specs.Fault.{FaultKind, short, magic, too_many_words, too_many_roots, long, overrun, too_many_objects, bad_reference, bad_root, WordsFail, HasFault as HasFault-words, OnFault}
@@ -7,7 +7,7 @@ use Rattle.image_core.specs.declared.fault.ReadImage.{ReadImage}
 use Rattle.image_core.specs.declared.fault.ReadImage.TheVariants.{Fault, Memory}
 use Rattle.std.specs.Result.{IfErr}
 use Rattle.image_core.proofs.Once.{lawful_no_fault, same_heap}
-use Rattle.image_reader.specs.Bytes.{magic_bytes, Spells, IsImage}
+use Rattle.image_reader.specs.Bytes.{Spells, IsImage}
 use Rattle.image_reader.specs.Fault.{length_said, HasHeader, SpelledFail, BytesFail, HasFault}
 use Rattle.image_reader.proofs.Spelling.{Spells-once}
 use Rattle.image_reader.proofs.Header.{Spells-header}

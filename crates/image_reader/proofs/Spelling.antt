@@ -9,7 +9,7 @@ use Rattle.std.proofs.lemmas.Nat.{from_le_bytes-to_le_bytes_8}
 use Rattle.std.specs.List.{slice_range}
 use Rattle.std.specs.Int.{w64, from_le_bytes}
 use Rattle.image_reader.specs.Bytes.{magic_bytes, word_bytes, spelled, spelling, AreWords, Spells}
-use Rattle.image_reader.specs.Fault.{word_at, words_said, roots_said}
+use Rattle.image_reader.specs.Fault.{words_said, roots_said}
 
 -- one more word
 pub spelled_more : (bytes words : List ℕ) (i word : ℕ) → spelled words ≡ take (8 * i) bytes

@@ -1,4 +1,4 @@
-use Rattle.std.proofs.Common.{◌≡◌, ◌<◌, ◌≤◌, ◌^◌, arith, sym, ◌∙◌}
+use Rattle.std.proofs.Common.{arith}
 use Rattle.image_reader.specs.Fault.{HasMagic}
 use Rattle.image_reader.proofs.Header.{magic_found, magic_missed, fault_of_short, fault_of_words, fault_of_roots, fault_of_length}
 use Rattle.image_reader.proofs.frame.read_frame.Goals as goal

@@ -1,4 +1,4 @@
-use Rattle.std.proofs.Common.{◌≡◌, ◌+◌, ◌*◌, ◌≤◌, arith, sym, ◌∙◌, ap, length}
+use Rattle.std.proofs.Common.{◌≡◌, ◌+◌, ◌*◌, arith, sym, ◌∙◌, ap, length}
 use Rattle.std.proofs.lemmas.List.{take_rest}
 use Rattle.image_reader.specs.Bytes.{word_bytes}
 use Rattle.image_reader.proofs.Spelling.{assembled}
