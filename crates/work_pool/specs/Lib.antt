@@ -4,3 +4,7 @@ pub mod Ways
 pub mod Puts
 pub mod Takes
 pub mod Tries
+pub mod Standing
+pub mod Deeds
+pub mod Drives
+pub mod Running

@@ -2,18 +2,28 @@
 //! bay is quiet. Before each try to take, a caller asks a gate.
 #![tactic(auto)]
 
+mod deeds;
+mod drives;
+mod driving;
 mod gates;
 mod hands;
+mod offers;
 mod pools;
 mod puts;
+mod steps;
 mod takes;
 mod tries;
+mod works;
 
+pub use deeds::Deed;
+pub use drives::Drive;
+pub use driving::drive;
 pub use gates::{Gate, OpenGate};
 pub use hands::Hand;
 pub use pools::{Pool, Way};
 pub use puts::Put;
 pub use takes::Taken;
+pub use works::Work;
 
 #[cfg(test)]
 mod tests;

@@ -3,6 +3,8 @@ use crate::{Gate, OpenGate};
 use std::cell::Cell;
 use std::test::Fail;
 
+mod alone;
+mod halving;
 mod pools;
 
 // A gate that adds up what it was asked.

@@ -13,7 +13,7 @@ use std::process::Abort;
 use std::sync::Wait;
 
 // A hand of the last of the passes, each of which holds one share.
-fn hand_of(bay: &Bay, passes: &mut Vec<BayPass>) -> Option<Hand>
+pub(crate) fn hand_of(bay: &Bay, passes: &mut Vec<BayPass>) -> Option<Hand>
     requires { (i : ℕ) (p : Caller BayView) → IsAt passes.old.items i p → (p.site ≡ bay.now.site) × (p.user.held ≡ 1) }
     ensures { IfSome result (λ h. (h.caller.site ≡ bay.now.site) × (h.caller.user.held ≡ 1)) }
 {

@@ -1,0 +1,105 @@
+//! Drives over a bay of one block, on one thread.
+ghost use Rattle.std.specs.Prelude.{◌≡◌, ◌≤◌, ◌^◌};
+
+use super::halving::Twice;
+use super::pools::hand_of;
+use crate::{Drive, OpenGate, Pool, Way, drive};
+use bay_core::Layout;
+use bay_store::{Bay, BayPass, Closed};
+use std::alloc::{AllocError, Global};
+use std::process::Abort;
+use std::sync::Wait;
+
+// What a drive left: how many items were handled, the shares of the pass, and the closed bay.
+#[derive(Drop)]
+struct Left {
+    driven: Result<Drive, AllocError>,
+    handled: usize,
+    held: u64,
+    closed: Closed,
+}
+
+// Closes a bay of one caller.
+fn close_one(alloc: Global, bay: Bay, pass: BayPass) -> Result<Closed, AllocError>
+    requires own { pass.site ≡ bay.site }
+    requires one { bay.callers ≡ 1 }
+{
+    let mut passes = Vec::with_capacity(alloc, 1)?;
+    passes.push_reserved(pass);
+    match bay.close(alloc, passes) {
+        Ok(closed) => Ok(closed),
+        Err(_) => Err(AllocError),
+    }
+}
+
+// Drives work that gives 3 first, with so many draws, through the stack.
+fn drive_alone<R: Wait + Abort>(
+    rt: &R,
+    alloc: Global,
+    draws: u64,
+    lacks: bool,
+) -> Result<Left, AllocError>
+    requires { draws ≤ 2 ^ 48 }
+{
+    let (bay, mut passes) = Bay::set_up(alloc, Layout::Split, 1, 1, draws)?;
+    let hand = hand_of(&bay, &mut passes).expect(rt, "a hand");
+    let mut work = Twice::new(alloc, 3, lacks)?;
+    let pool = Pool::over(&bay, Way::Stack);
+    let (hand, driven) = drive(rt, &pool, hand, &OpenGate, &mut work);
+    let held = hand.held();
+    let handled = work.done();
+    let closed = close_one(alloc, bay, hand.pass())?;
+    Ok(Left {
+        driven,
+        handled,
+        held,
+        closed,
+    })
+}
+
+// The answer of a drive that memory did not stop.
+fn driven_so(shared: u64, kept: u64, quiet: bool) -> Result<Drive, AllocError> {
+    Ok(Drive {
+        shared,
+        kept,
+        quiet,
+    })
+}
+
+#[test]
+fn a_drive_ends_where_the_bay_is_quiet(rt: HostRuntime) -> Result<(), AllocError> {
+    let left = drive_alone(&rt, rt.alloc(), 1000, false)?;
+    assert_eq!(rt; left.driven, driven_so(15, 0, true));
+    assert_eq!(rt; (left.handled, left.held), (15, 0));
+    assert_eq!(rt; (left.closed.stack.len(), left.closed.live), (0, 0));
+    Ok(())
+}
+
+#[test]
+fn a_spent_drive_leaves_its_items_in_the_pool(rt: HostRuntime) -> Result<(), AllocError> {
+    let left = drive_alone(&rt, rt.alloc(), 4, false)?;
+    assert_eq!(rt; left.driven, driven_so(3, 0, false));
+    assert_eq!(rt; (left.handled, left.held), (1, 0));
+    assert_eq!(rt; left.closed.stack.as_slice(), [2, 2].as_slice());
+    assert_eq!(rt; left.closed.live, 2);
+    Ok(())
+}
+
+#[test]
+fn what_comes_back_is_kept_and_handled(rt: HostRuntime) -> Result<(), AllocError> {
+    let left = drive_alone(&rt, rt.alloc(), 3, false)?;
+    assert_eq!(rt; left.driven, driven_so(2, 7, false));
+    assert_eq!(rt; (left.handled, left.held), (8, 0));
+    assert_eq!(rt; left.closed.stack.as_slice(), [2].as_slice());
+    assert_eq!(rt; left.closed.live, 1);
+    Ok(())
+}
+
+#[test]
+fn want_of_memory_ends_a_drive(rt: HostRuntime) -> Result<(), AllocError> {
+    let left = drive_alone(&rt, rt.alloc(), 1000, true)?;
+    assert_eq!(rt; left.driven, Err(AllocError));
+    assert_eq!(rt; (left.handled, left.held), (0, 0));
+    assert_eq!(rt; (left.closed.stack.len(), left.closed.live), (0, 0));
+    Ok(())
+}
