@@ -1,14 +1,12 @@
 -- One offer, and all offers.
-use Rattle.std.proofs.Common.{◌≡◌, ◌⊎◌, ℕ, ◌+◌, ◌-◌, ◌^◌, ◌<◌, ◌≤◌, inl, inr, cond, eqb, min, List, [], ◌∷◌, ◌++◌, length, All, refl, sym, ap, ◌∙◌, subst, arith}
+use Rattle.std.proofs.Common.{◌≡◌, ◌⊎◌, ℕ, ◌+◌, ◌^◌, ◌<◌, ◌≤◌, inl, inr, cond, eqb, List, [], ◌∷◌, ◌++◌, length, All, refl, sym, ap, ◌∙◌, subst, arith}
 use Rattle.std.specs.Prelude.{Some}
 use Rattle.std.specs.List.{Contains}
-use Rattle.std.specs.List.Sorted.{IsPermutation}
-use Rattle.std.proofs.lemmas.List.{append-nil, append_assoc}
+use Rattle.std.proofs.lemmas.List.{append-nil}
 use Rattle.std.proofs.lemmas.List.Sorted.{sum_by-IsPermutation}
 use Rattle.std.proofs.lemmas.List.Elements.{All-weaker, All-contains_itself, Contains-append_right}
 use Rattle.room_gate.specs.Shows.{Caller}
 use Rattle.bay_core.specs.declared.calls.Op.{Op}
-use Rattle.bay_core.specs.declared.calls.Reply.TheVariants as replies
 use Rattle.bay_core.specs.declared.calls.Entry.{Entry}
 use Rattle.bay_core.specs.History.{own}
 use Rattle.bay_rule.specs.declared.views.BayView.{BayView}
@@ -20,16 +18,16 @@ use Rattle.work_pool.specs.Shows.{Worker}
 use Rattle.work_pool.specs.Standing.{Standing, Gives, Keeps}
 use Rattle.work_pool.specs.Ways.{puts}
 use Rattle.work_pool.specs.Puts.{Puts}
-use Rattle.work_pool.specs.Deeds.{calls, missed, offered, stored, put_by, gained, handled, times}
-use Rattle.work_pool.specs.Drives.{MayOffer, MayFollow, IsOffer, Went, Loud}
-use Rattle.work_pool.specs.Running.{Runs, Stock, Goes, Tallies, PutsBy, OffersOne, OffersAll}
+use Rattle.work_pool.specs.Deeds.{calls, missed, times}
+use Rattle.work_pool.specs.Drives.{MayOffer, Went, Loud}
+use Rattle.work_pool.specs.Running.{Stock, Goes, Tallies, PutsBy, OffersOne, OffersAll}
 use Rattle.work_pool.specs.declared.pools.Way.{Way}
 use Rattle.work_pool.specs.declared.puts.Put.{Put}
 use Rattle.work_pool.specs.declared.puts.Put.TheVariants as put
 use Rattle.work_pool.specs.declared.deeds.Deed.{Deed}
 use Rattle.work_pool.specs.declared.deeds.Deed.TheVariants.{Stored, Refused, Withheld}
 use Rattle.work_pool.specs.declared.drives.Drive.{Drive}
-use Rattle.work_pool.proofs.Running.{reached, reached_same, after_run, went_none, goes_more, goes_none, tallies_more, tallies_none, times_both, head_in}
+use Rattle.work_pool.proofs.Running.{reached_same, went_none, goes_more, goes_none, tallies_more, tallies_none, times_both, head_in}
 
 -- a call of the caller's that leaves its shares
 module _ (blocks : ℕ) (op : Op) (item : ℕ) (before now : Caller BayView) (r : Receipt) (mine : before.user.mine ≡ own before.who before.user.seen) (c : Calls blocks op item before now r) (d : Deed) (one : calls (d ∷ []) ≡ r.entry ∷ []) (found : missed (d ∷ []) ≡ []) where

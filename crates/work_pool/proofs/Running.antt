@@ -1,21 +1,17 @@
 -- Runs of deeds, one after another.
-use Rattle.std.proofs.Common.{◌≡◌, ◌≢◌, ℕ, ◌+◌, ◌-◌, ◌^◌, ◌<◌, ◌≤◌, inl, inr, cond, min, List, [], ◌∷◌, ◌++◌, length, map, Option, All, eqb, eq-eqb, refl, sym, ap, ◌∙◌, subst, arith}
-use Rattle.std.specs.List.{flat_map, Contains}
+use Rattle.std.proofs.Common.{◌≡◌, ◌≢◌, ℕ, ◌+◌, ◌^◌, ◌<◌, ◌≤◌, inl, inr, cond, List, [], ◌∷◌, ◌++◌, length, Option, eqb, eq-eqb, refl, sym, ap, ◌∙◌, subst, arith}
+use Rattle.std.specs.List.{Contains}
 use Rattle.std.proofs.lemmas.Bool.{cases_eq, ne_eqb}
 use Rattle.std.proofs.lemmas.Grind.{flat_map-append}
 use Rattle.std.proofs.lemmas.List.{append-nil, append_assoc, length-append}
 use Rattle.std.proofs.lemmas.List.Sums.{sum_by-append, sum_by-cons}
 use Rattle.std.proofs.lemmas.List.Elements.{All-weaker, All-contains, Contains-append_left, Contains-append_right, Contains-append_cases, Contains-push, Contains-push_cases, All-contains_itself}
 use Rattle.room_gate.specs.Shows.{Caller}
-use Rattle.bay_core.specs.declared.calls.Op.{Op}
-use Rattle.bay_core.specs.declared.calls.Entry.{Entry}
-use Rattle.bay_core.specs.History.{own, GoesOn}
+use Rattle.bay_core.specs.History.{own}
 use Rattle.bay_rule.specs.declared.views.BayView.{BayView}
-use Rattle.bay_store.specs.Calls.{Calls}
-use Rattle.bay_store.specs.Sharing.{holding, held_called}
-use Rattle.bay_store.specs.declared.receipts.Receipt.{Receipt}
+use Rattle.bay_store.specs.Sharing.{holding}
 use Rattle.room_history.specs.Told.{told}
-use Rattle.room_history.proofs.Telling.{told_more, goes_further}
+use Rattle.room_history.proofs.Telling.{goes_further}
 use Rattle.work_pool.specs.Shows.{Worker}
 use Rattle.work_pool.specs.Standing.{Standing}
 use Rattle.work_pool.specs.Deeds.{handle_of, gain_of, call_of, miss_of, offer_of, store_of, keep_of, calls, missed, offered, stored, put_by, gained, handled, times}

@@ -1,10 +1,9 @@
 -- One step of a drive: an item that is kept or taken, and handled.
-use Rattle.std.proofs.Common.{◌≡◌, ◌⊎◌, ℕ, ◌+◌, ◌-◌, ◌^◌, ◌<◌, ◌≤◌, inl, inr, cond, eqb, min, List, [], ◌∷◌, ◌++◌, length, map, All, refl, sym, ap, ◌∙◌, subst, arith}
+use Rattle.std.proofs.Common.{◌≡◌, ◌⊎◌, ℕ, ◌+◌, ◌≤◌, inl, inr, cond, eqb, List, [], ◌∷◌, ◌++◌, length, map, All, refl, sym, ap, ◌∙◌, subst, arith}
 use Rattle.std.specs.Prelude.{Some, None}
 use Rattle.std.specs.List.{Contains, flat_map}
-use Rattle.std.specs.List.Sorted.{IsPermutation}
 use Rattle.std.proofs.lemmas.Grind.{flat_map-append}
-use Rattle.std.proofs.lemmas.List.{append-nil, append_assoc, length-append}
+use Rattle.std.proofs.lemmas.List.{append-nil, length-append}
 use Rattle.std.proofs.lemmas.List.Sorted.{sum_by-IsPermutation, Contains-permutation, length_permutation, IsPermutation-refl, IsPermutation-sym}
 use Rattle.std.proofs.lemmas.List.Elements.{All-weaker, All-append, All-contains_itself, All-head, All-tail, Contains-append_left}
 use Rattle.room_gate.specs.Shows.{Caller}
@@ -12,7 +11,6 @@ use Rattle.bay_core.specs.declared.calls.Reply.TheVariants as replies
 use Rattle.bay_core.specs.declared.calls.Entry.{Entry}
 use Rattle.bay_core.specs.History.{own}
 use Rattle.bay_rule.specs.declared.views.BayView.{BayView}
-use Rattle.bay_rule.specs.Leaving.{first_of}
 use Rattle.bay_store.specs.Sharing.{holding}
 use Rattle.bay_store.specs.declared.receipts.Receipt.{Receipt}
 use Rattle.room_history.specs.Told.{told}
@@ -20,9 +18,9 @@ use Rattle.work_pool.specs.Shows.{Worker}
 use Rattle.work_pool.specs.Standing.{Standing, Handles, Unkeeps, Lacks}
 use Rattle.work_pool.specs.Ways.{takes}
 use Rattle.work_pool.specs.Takes.{IsTry, Takes, Works, item_entry, held_with, quiet_since}
-use Rattle.work_pool.specs.Deeds.{call_of, miss_of, offer_of, store_of, keep_of, gain_of, handle_of, calls, missed, offered, stored, put_by, gained, handled, times}
+use Rattle.work_pool.specs.Deeds.{call_of, miss_of, offer_of, store_of, keep_of, gain_of, handle_of, calls, missed, stored, put_by, gained, times}
 use Rattle.work_pool.specs.Drives.{MayOffer, MayFollow, Went, Loud}
-use Rattle.work_pool.specs.Running.{EachFollows, Runs, Stock, Goes, OffersNone, HandlesOne, Steps, StepsOn, StepsWanting, StepsOut}
+use Rattle.work_pool.specs.Running.{EachFollows, Runs, Stock, Goes, OffersNone, HandlesOne, Steps, StepsOn, StepsWanting}
 use Rattle.work_pool.specs.declared.pools.Way.{Way}
 use Rattle.work_pool.specs.declared.takes.Taken.{Taken}
 use Rattle.work_pool.specs.declared.takes.Taken.TheVariants as taken

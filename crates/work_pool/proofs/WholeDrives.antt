@@ -1,5 +1,5 @@
 -- A whole drive, step after step.
-use Rattle.std.proofs.Common.{◌≡◌, ◌⊎◌, ℕ, ◌+◌, ◌-◌, ◌^◌, ◌<◌, ◌≤◌, inl, inr, min, true, false, List, [], ◌∷◌, ◌++◌, length, refl, sym, ap, ◌∙◌, subst, arith}
+use Rattle.std.proofs.Common.{◌≡◌, ◌⊎◌, ℕ, ◌+◌, ◌≤◌, inl, inr, true, false, List, [], ◌++◌, length, refl, sym, ap, ◌∙◌, subst, arith}
 use Rattle.std.specs.Prelude.{Ok, Err}
 use Rattle.std.proofs.lemmas.Grind.{flat_map-append}
 use Rattle.std.proofs.lemmas.List.{length-append}
@@ -10,8 +10,8 @@ use Rattle.bay_rule.specs.Leaving.{first_of}
 use Rattle.work_pool.specs.Shows.{Worker}
 use Rattle.work_pool.specs.Standing.{Standing}
 use Rattle.work_pool.specs.Deeds.{store_of, keep_of, stored, put_by, handled, gained, times}
-use Rattle.work_pool.specs.Drives.{MayFollow, Loud, Ends, Drives}
-use Rattle.work_pool.specs.Running.{Runs, Stock, Goes, Tallies, OffersNone, OffersAll, Steps, StepsOn, StepsWanting, StepsOut}
+use Rattle.work_pool.specs.Drives.{MayFollow, Ends, Drives}
+use Rattle.work_pool.specs.Running.{Runs, Stock, Goes, Tallies, OffersNone, OffersAll, StepsOn, StepsWanting, StepsOut}
 use Rattle.work_pool.specs.declared.pools.Way.{Way}
 use Rattle.work_pool.specs.declared.steps.Did.{Did}
 use Rattle.work_pool.specs.declared.steps.Did.TheVariants as did

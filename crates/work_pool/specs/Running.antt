@@ -6,7 +6,7 @@ use Rattle.bay_rule.specs.Leaving.{first_of}
 use Rattle.bay_store.specs.Sharing.{holding}
 use Rattle.work_pool.specs.Shows.{Worker}
 use Rattle.work_pool.specs.Standing.{Standing, Handles, Keeps, Lacks}
-use Rattle.work_pool.specs.Deeds.{calls, missed, offered, stored, put_by, gained, handled, times}
+use Rattle.work_pool.specs.Deeds.{offered, stored, put_by, gained, handled, times}
 use Rattle.work_pool.specs.Drives.{MayOffer, MayFollow, Went, Loud}
 use Rattle.work_pool.specs.declared.pools.Way.{Way}
 use Rattle.work_pool.specs.declared.puts.Put.{Put}

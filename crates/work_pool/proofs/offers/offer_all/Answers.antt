@@ -1,6 +1,5 @@
-use Rattle.std.proofs.Common.{◌+◌, ◌≤◌, inl, inr, refl, sym, ap, ◌∙◌, subst}
-use Rattle.work_pool.specs.Standing.{Standing}
-use Rattle.work_pool.proofs.Offering.{no_offer, offer_more, offers_end, share_more, small_then}
+use Rattle.std.proofs.Common.{refl, ◌∙◌}
+use Rattle.work_pool.proofs.Offering.{no_offer, offer_more, share_more, small_then}
 use Rattle.work_pool.proofs.offers.offer_all.Goals as goal
 
 pub loop-then-init : goal.loop-then-init

@@ -1,4 +1,4 @@
-use Rattle.std.proofs.Common.{sym, ap, ◌∙◌}
+use Rattle.std.proofs.Common.{ap}
 use Rattle.work_pool.specs.Shows.{Worker}
 use Rattle.work_pool.proofs.Offering.{offered_one}
 use Rattle.work_pool.proofs.offers.offer_next.Goals as goal

@@ -1,4 +1,3 @@
-use Rattle.std.proofs.Common.{subst}
 use Rattle.work_pool.proofs.Stepping.{kept_steps, none_steps, one_held, room_none}
 use Rattle.work_pool.proofs.steps.next_step.Goals as goal
 
