@@ -1,5 +1,6 @@
 //! A pool of work: items that callers share through a bay, which they put in and take out until the
-//! bay is quiet. Before each try to take, a caller asks a gate.
+//! bay is quiet. Before each try to take, a caller asks a gate. A drive does a caller's whole work so:
+//! it offers what the work gives, and has it handle what is kept or taken.
 #![tactic(auto)]
 
 mod deeds;
