@@ -201,7 +201,7 @@ module _ (leads : ℕ → ℕ → Type 0) (was mid : Standing) (item : ℕ) (g :
               still = none.still;
               same = none.same;
             });
-            follows = (may_first, tt);
+            follows = ((may_first, omega (arith, p.1.spent)), tt);
             given = ap (λ (s : Standing). s.given) keeps.same ∙ given_more;
             done = ap (λ (s : Standing). s.done) keeps.same ∙ (done_same ∙ sym (append-nil was.done));
             worker = worker;

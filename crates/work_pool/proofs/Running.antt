@@ -236,26 +236,40 @@ module _ (way : Way) (leads after : ℕ → ℕ → Type 0) (weaker : (y x : ℕ
         | inr got ↦ Contains-append_right (was.kept_items ++ gained r1) (gained past) x got
       ])
 
-  follow_carried : (past : List Deed) (d : Deed) → MayFollow way after mid past d → MayFollow way leads was (r1 ++ past) d
-  follow_carried past (Stored item e) may = (may.0, offer_carried past item may.1)
-  follow_carried past (Refused item e) may = (may.0, offer_carried past item may.1)
-  follow_carried past (Withheld item) may = offer_carried past item may
-  follow_carried past (Missed e) may = may
-  follow_carried past (Took item e) may = may
-  follow_carried past (Handled item) may = handle_carried past item may
+  withheld_carried : (a b : Caller BayView) → Went a b r1 → (past : List Deed)
+      → b.draws + length (calls past) ≡ b.limit → a.draws + length (calls (r1 ++ past)) ≡ a.limit
+  withheld_carried a b w past last =
+      omega (
+        arith,
+        last,
+        ap (λ (p : Caller BayView). p.draws) w.same,
+        ap (λ (p : Caller BayView). p.limit) w.same,
+        ap length (flat_map-append call_of r1 past),
+        length-append (calls r1) (calls past),
+      )
 
-  follows_more : (r2 : List Deed) → EachFollows (MayFollow way leads was) [] r1 → EachFollows (MayFollow way after mid) [] r2
-      → EachFollows (MayFollow way leads was) [] (r1 ++ r2)
-  follows_more r2 e1 e2 =
-      each_both (MayFollow way leads was) [] r1 r2 e1
-      (subst (λ l. EachFollows (MayFollow way leads was) l r2) (append-nil r1)
-      (each_later (MayFollow way leads was) (MayFollow way after mid) r1 follow_carried [] r2 e2))
+  follow_carried : (a b : Caller BayView) → Went a b r1 → (past : List Deed) (d : Deed)
+      → MayFollow way after b mid past d → MayFollow way leads a was (r1 ++ past) d
+  follow_carried a b w past (Stored item e) may = (may.0, offer_carried past item may.1)
+  follow_carried a b w past (Refused item e) may = (may.0, offer_carried past item may.1)
+  follow_carried a b w past (Withheld item) may =
+      (offer_carried past item may.0, withheld_carried a b w past may.1)
+  follow_carried a b w past (Missed e) may = may
+  follow_carried a b w past (Took item e) may = may
+  follow_carried a b w past (Handled item) may = handle_carried past item may
+
+  follows_more : (a b : Caller BayView) → Went a b r1 → (r2 : List Deed) → EachFollows (MayFollow way leads a was) [] r1
+      → EachFollows (MayFollow way after b mid) [] r2 → EachFollows (MayFollow way leads a was) [] (r1 ++ r2)
+  follows_more a b w r2 e1 e2 =
+      each_both (MayFollow way leads a was) [] r1 r2 e1
+      (subst (λ l. EachFollows (MayFollow way leads a was) l r2) (append-nil r1)
+      (each_later (MayFollow way leads a was) (MayFollow way after b mid) r1 (follow_carried a b w) [] r2 e2))
 
   pub runs_more : (a b c : Worker) (is : Standing) (r2 : List Deed) → Runs way leads a b was mid r1
       → Runs way after b c mid is r2 → Runs way leads a c was is (r1 ++ r2)
   runs_more a b c is r2 one two = record {
     went = went_more a.caller b.caller c.caller r1 r2 one.went two.went;
-    follows = follows_more r2 one.follows two.follows;
+    follows = follows_more a.caller b.caller one.went r2 one.follows two.follows;
     given = two.given ∙ (ap (λ l. l ++ offered r2) one.given ∙ (append_assoc was.given (offered r1) (offered r2)
         ∙ ap (λ l. was.given ++ l) (sym (flat_map-append offer_of r1 r2))));
     done = two.done ∙ (ap (λ l. l ++ handled r2) one.done ∙ (append_assoc was.done (handled r1) (handled r2)

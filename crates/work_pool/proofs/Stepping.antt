@@ -86,20 +86,20 @@ deeds_missed es answer =
     ∙ (ap (λ xs. xs ++ missed (took answer)) (missed_missed es)
     ∙ (ap (λ xs. es ++ xs) (took_none miss_of (λ item e. refl) answer) ∙ append-nil es))
 
-each_missed : (way : Way) (leads : ℕ → ℕ → Type 0) (was : Standing) (tail : List Deed)
-    → ((past : List Deed) → EachFollows (MayFollow way leads was) past tail)
+each_missed : (way : Way) (leads : ℕ → ℕ → Type 0) (caller : Caller BayView) (was : Standing) (tail : List Deed)
+    → ((past : List Deed) → EachFollows (MayFollow way leads caller was) past tail)
     → (es : List Entry) (past : List Deed) → All (IsTry (takes way) replies.Empty) es
-    → EachFollows (MayFollow way leads was) past (map Missed es ++ tail)
-each_missed way leads was tail after [] past all = after past
-each_missed way leads was tail after (e ∷ es) past all =
-    (All-head (IsTry (takes way) replies.Empty) e es all, each_missed way leads was tail after es (past ++ Missed e ∷ []) (All-tail (IsTry (takes way) replies.Empty) e es all))
+    → EachFollows (MayFollow way leads caller was) past (map Missed es ++ tail)
+each_missed way leads caller was tail after [] past all = after past
+each_missed way leads caller was tail after (e ∷ es) past all =
+    (All-head (IsTry (takes way) replies.Empty) e es all, each_missed way leads caller was tail after es (past ++ Missed e ∷ []) (All-tail (IsTry (takes way) replies.Empty) e es all))
 
-took_follows : (way : Way) (leads : ℕ → ℕ → Type 0) (was : Standing) (blocks : ℕ) (before now : Caller BayView) (es : List Entry) (answer : Taken)
+took_follows : (way : Way) (leads : ℕ → ℕ → Type 0) (caller : Caller BayView) (was : Standing) (blocks : ℕ) (before now : Caller BayView) (es : List Entry) (answer : Taken)
     → Takes blocks (takes way) before now es answer → (past : List Deed)
-    → EachFollows (MayFollow way leads was) past (took answer)
-took_follows way leads was blocks before now es (taken.Item item r) t past = (t.says.0, tt)
-took_follows way leads was blocks before now es taken.Quiet t past = tt
-took_follows way leads was blocks before now es taken.Spent t past = tt
+    → EachFollows (MayFollow way leads caller was) past (took answer)
+took_follows way leads caller was blocks before now es (taken.Item item r) t past = (t.says.0, tt)
+took_follows way leads caller was blocks before now es taken.Quiet t past = tt
+took_follows way leads caller was blocks before now es taken.Spent t past = tt
 
 -- nothing was offered
 deeds_silent : (es : List Entry) (answer : Taken) → OffersNone (deeds es answer)
@@ -135,7 +135,7 @@ module _ (way : Way) (leads : ℕ → ℕ → Type 0) (blocks : ℕ) (before now
       → Runs way leads before now was is (deeds w.empties answer)
   took_runs was is given done = record {
     went = took_went;
-    follows = each_missed way leads was (took answer) (took_follows way leads was blocks before.caller now.caller w.empties answer w.takes) w.empties [] w.takes.empty;
+    follows = each_missed way leads before.caller was (took answer) (took_follows way leads before.caller was blocks before.caller now.caller w.empties answer w.takes) w.empties [] w.takes.empty;
     given = given ∙ (sym (append-nil was.given) ∙ ap (λ l. was.given ++ l) (sym (deeds_none offer_of (λ e. refl) (λ item e. refl) w.empties answer)));
     done = done ∙ (sym (append-nil was.done) ∙ ap (λ l. was.done ++ l) (sym (deeds_none handle_of (λ e. refl) (λ item e. refl) w.empties answer)));
     worker = w.same;

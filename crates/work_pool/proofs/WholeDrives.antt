@@ -99,7 +99,7 @@ module _ (way : Way) (leads after later : ℕ → ℕ → Type 0) (weaker : (y x
       record {
         run = run;
         went = runs.went;
-        follows = λ past d rest at. each_at (MayFollow way leads was) [] run past d rest runs.follows at;
+        follows = λ past d rest at. each_at (MayFollow way leads before.caller was) [] run past d rest runs.follows at;
         given = runs.given;
         done = runs.done;
         worker = runs.worker;
@@ -129,7 +129,7 @@ module _ (way : Way) (leads after later : ℕ → ℕ → Type 0) (weaker : (y x
     out_drives d ends = record {
       run = so_far.run ++ t.run;
       went = out_runs.went;
-      follows = λ past e rest at. each_at (MayFollow way leads was) [] (so_far.run ++ t.run) past e rest out_runs.follows at;
+      follows = λ past e rest at. each_at (MayFollow way leads before.caller was) [] (so_far.run ++ t.run) past e rest out_runs.follows at;
       given = out_runs.given;
       done = out_runs.done;
       worker = out_runs.worker;

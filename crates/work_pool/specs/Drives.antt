@@ -35,16 +35,17 @@ MayOffer leads was past x =
 abbrev pub MayHandle : Standing → List Deed → ℕ → Type 0
 MayHandle was past x = Contains (was.kept_items ++ gained past) x
 
--- the deed may follow these ones
-abbrev pub MayFollow : Way → (ℕ → ℕ → Type 0) → Standing → List Deed → Deed → Type 0
-MayFollow way leads was past (Stored item e) =
+-- the deed of this caller may follow these ones; an item is withheld where they made its last draw
+abbrev pub MayFollow : Way → (ℕ → ℕ → Type 0) → Caller BayView → Standing → List Deed → Deed → Type 0
+MayFollow way leads before was past (Stored item e) =
     IsOffer (puts way) item replies.Done e × MayOffer leads was past item
-MayFollow way leads was past (Refused item e) =
+MayFollow way leads before was past (Refused item e) =
     IsOffer (puts way) item replies.Full e × MayOffer leads was past item
-MayFollow way leads was past (Withheld item) = MayOffer leads was past item
-MayFollow way leads was past (Missed e) = IsTry (takes way) replies.Empty e
-MayFollow way leads was past (Took item e) = IsTry (takes way) (replies.Item item) e
-MayFollow way leads was past (Handled item) = MayHandle was past item
+MayFollow way leads before was past (Withheld item) =
+    MayOffer leads was past item × (before.draws + length (calls past) ≡ before.limit)
+MayFollow way leads before was past (Missed e) = IsTry (takes way) replies.Empty e
+MayFollow way leads before was past (Took item e) = IsTry (takes way) (replies.Item item) e
+MayFollow way leads before was past (Handled item) = MayHandle was past item
 
 -- What a run leaves of its caller, but for its shares and for what it hears of `live`: the history
 -- that it has seen goes on, its own calls gained in it the entries of the run's calls, in their
@@ -105,7 +106,7 @@ pub record Drives {E : Type 0} (way : Way) (leads : ℕ → ℕ → Type 0) (bef
   pub went : Went before.caller now.caller run
   -- each deed may follow those before it
   pub follows : (past : List Deed) (d : Deed) (rest : List Deed) → run ≡ past ++ d ∷ rest
-      → MayFollow way leads was past d
+      → MayFollow way leads before.caller was past d
   -- the work gave what was offered, and did what was handled
   pub given : is.given ≡ was.given ++ offered run
   pub done : is.done ≡ was.done ++ handled run

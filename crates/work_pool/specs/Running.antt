@@ -25,7 +25,7 @@ EachFollows May past (d ∷ run) = May past d × EachFollows May (past ++ d ∷ 
 pub record Runs (way : Way) (leads : ℕ → ℕ → Type 0) (before now : Worker) (was is : Standing)
     (run : List Deed) : Type 0 where
   pub went : Went before.caller now.caller run
-  pub follows : EachFollows (MayFollow way leads was) [] run
+  pub follows : EachFollows (MayFollow way leads before.caller was) [] run
   pub given : is.given ≡ was.given ++ offered run
   pub done : is.done ≡ was.done ++ handled run
   pub worker : now.worker ≡ before.worker
