@@ -68,6 +68,7 @@ pub record OffersOne (way : Way) (leads : ℕ → ℕ → Type 0) (before now : 
   pub fewer : length was.to_give ≡ length is.to_give + 1
   pub tallies : Tallies drive then (deed ∷ [])
 
+-- the next offer, or none where there was nothing to give
 abbrev pub OffersNext : Way → (ℕ → ℕ → Type 0) → Worker → Worker → Standing → Standing → Drive
     → Option Drive → Type 0
 OffersNext way leads before now was is drive (Some then) =
