@@ -2,7 +2,7 @@
 ghost use Rattle.std.specs.Prelude.{◌≡◌, ◌≤◌, [], length, vec_capacity, IfOk, IfErr, IsOkAnd};
 ghost use Rattle.room_trial.specs.Callers.{Answers};
 
-use crate::line_calls::call;
+use crate::line_calls::call_line;
 use bay_core::Entry;
 use bay_store::{Bay, BayPass};
 use room_script::Line;
@@ -65,7 +65,7 @@ fn answered<R: Wait, G: Gate>(
     let mut entries = space;
     for (i, line) in lines.iter().enumerate() {
         gate.ask(who, i as u64);
-        let (after, receipt) = call(rt, bay, pass, *line);
+        let (after, receipt) = call_line(rt, bay, pass, *line);
         pass = after;
         match receipt {
             Some(receipt) => entries.push_reserved(receipt.entry),

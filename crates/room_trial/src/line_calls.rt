@@ -8,8 +8,10 @@ use bay_store::{Bay, BayPass, Popped, Pushed, Receipt};
 use room_script::Line;
 use std::sync::Wait;
 
-// Makes the call of a line. There is no receipt where the pass had made its last draw.
-pub(crate) fn call<R: Wait>(
+/// Makes the call of a line, with a pass of this bay that holds a share. The receipt is that of the
+/// bay's call; there is none exactly where the pass had made its last draw, and it is then as it was.
+/// It waits for those that are let in before it to leave, and takes no memory.
+pub fn call_line<R: Wait>(
     rt: &R,
     bay: &Bay,
     pass: BayPass,
@@ -19,6 +21,7 @@ pub(crate) fn call<R: Wait>(
     requires share { 1 ≤ pass.user.held }
     ensures gives { CallGives bay.now.usage.blocks (asked line).0 (asked line).1 pass result.0 result.1 }
     ensures same_bay { result.0.site ≡ pass.site }
+    ensures same_caller { result.0.who ≡ pass.who }
     ensures share { 1 ≤ result.0.user.held }
 {
     match line {
