@@ -1,20 +1,23 @@
 -- The steps on `live` may be made.
-use Rattle.std.proofs.Common.{◌≡◌, ℕ, ◌+◌, ◌-◌, ◌*◌, ◌^◌, ◌<◌, ◌≤◌, List, length, get_or, refl, sym, subst, inl, inr, arith}
+use Rattle.std.proofs.Common.{◌≡◌, ℕ, ◌+◌, ◌-◌, ◌*◌, ◌^◌, ◌<◌, ◌≤◌, List, length, get_or, Option, Some, None, IfSome, refl, sym, subst, inl, inr, arith}
 use Rattle.std.proofs.lemmas.Bool.{cases_lt}
 use Rattle.room_rule.specs.Callers.{sum_within}
 use Rattle.room_rule.specs.Steps.{CanTouch}
 use Rattle.bay_core.specs.declared.calls.Layout.TheVariants.{Split}
+use Rattle.bay_core.specs.declared.calls.Noted.{Noted}
 use Rattle.bay_core.specs.Noted.{after}
 use Rattle.bay_core.specs.History.{own, GoesOn}
 use Rattle.bay_core.proofs.Growing.{IsHistory-fits}
 use Rattle.bay_rule.specs.declared.bay_use.BayUse.{BayUse}
 use Rattle.bay_rule.specs.declared.views.BayView.{BayView}
 use Rattle.bay_rule.specs.Views.{view_of, shares}
-use Rattle.bay_rule.specs.Leaving.{loaded, quieted}
+use Rattle.bay_rule.specs.Leaving.{first_of, loaded, quieted}
+use Rattle.bay_rule.specs.Newest.{EmptySince}
 use Rattle.bay_rule.specs.Live.{StepsLive}
 use Rattle.bay_rule.specs.Bay.{bay}
 use Rattle.bay_rule.specs.Told.{of_users, share_told, live_told, FoundQuiet}
 use Rattle.bay_rule.specs.Keeping.Seats.{found, shares_own}
+use Rattle.bay_rule.specs.Keeping.Touching.{since_all}
 
 shares_few : (views : List BayView) → ((d : ℕ) → (view_of views d).held ≤ 2 ^ 50) → shares views ≤ 2 ^ 50 * length views
 shares_few views h =
@@ -54,6 +57,16 @@ can_settle x who held v some s g stands small =
       ),
     )
 
+-- while something is live nobody has found the bay quiet
+never_quiet : (o : Option ℕ) (P : ℕ → Type 0) (live : ℕ) → 0 < live → IfSome o (λ j. (live ≡ 0) × P j) → o ≡ None
+never_quiet None P live some q = refl
+never_quiet (Some j) P live some q = absurd (omega (arith, some, q.0))
+
+-- since it was found quiet first
+since_first : (o : Option ℕ) (h : List Noted) (live : ℕ) → IfSome o (λ j. (live ≡ 0) × EmptySince j h) → IfSome (first_of o (length h)) (λ j. EmptySince j h)
+since_first None h live q = since_all h
+since_first (Some j) h live q = q.1
+
 -- a load
 pub can_listen : (x : BayUse) (blocks who : ℕ) (v : BayView) → x.blocks ≡ blocks → CanTouch bay x who v 3 (λ n. n) (λ _. Unit {0}) (of_users (live_told blocks who))
 can_listen x blocks who v is s g stands small =
@@ -67,7 +80,7 @@ can_listen x blocks who v is s g stands small =
         (
           loaded v live,
           (h, k, subst (λ y. StepsLive h s.words y 3 live (loaded v live)) (sym f.1) (inr (inr (inl (record { word = refl; value = refl; some = some; view = refl }))))),
-          inl (some, refl),
+          inl (some, subst (λ (y : BayView). y.quiet_at ≡ None) f.1 (never_quiet (view_of s.views who).quiet_at (λ j. EmptySince j h) live some (k.each who).quiet), refl),
         ),
       )
       | inr none ↦ (let z : live ≡ 0 = omega (arith, none) in (
@@ -87,6 +100,7 @@ can_listen x blocks who v is s g stands small =
                 no_stack = omega (arith, z, k.live);
                 no_queue = omega (arith, z, k.live);
                 no_share = omega (arith, z, k.live, subst (λ (y : BayView). y.held ≤ shares s.views) f.1 (shares_own s.views who f.0));
+                since = subst (λ (y : BayView). IfSome (first_of y.quiet_at (length h)) (λ j. EmptySince j h)) f.1 (since_first (view_of s.views who).quiet_at h live (k.each who).quiet);
               }),
             ),
           ),

@@ -1,5 +1,5 @@
 -- What each step of a call tells its caller.
-use Rattle.std.specs.Prelude.{◌≡◌, ℕ, ◌+◌, ◌^◌, ◌-◌, ◌*◌, ◌<◌, ◌≤◌, ◌⊎◌, true, false, List, length, IfSome}
+use Rattle.std.specs.Prelude.{◌≡◌, ℕ, ◌+◌, ◌^◌, ◌-◌, ◌*◌, ◌<◌, ◌≤◌, ◌⊎◌, true, false, List, length, None, IfSome}
 use Rattle.room_rule.specs.Use.{Own}
 use Rattle.bay_core.specs.declared.calls.Layout.TheVariants.{Split}
 use Rattle.bay_core.specs.declared.calls.Op.{Op}
@@ -96,7 +96,8 @@ freeze_told v old new w = w ≡ staged v (Froze old)
 abbrev pub share_told : ℕ → Tells
 share_told held v old new w = w ≡ record v { held = held }
 
--- the load of `live` found the bay quiet when h was its history
+-- the load of `live` found the bay quiet when h was its history; since the caller first found it so, each
+-- call was answered empty
 pub record FoundQuiet (blocks who : ℕ) (v w : BayView) (h : List Noted) : Type 0 where
   pub goes_on : GoesOn h v.seen
   pub view : w ≡ quieted v h
@@ -105,11 +106,13 @@ pub record FoundQuiet (blocks who : ℕ) (v w : BayView) (h : List Noted) : Type
   pub no_stack : length (after h).stack ≡ 0
   pub no_queue : length (after h).queue ≡ 0
   pub no_share : v.held ≡ 0
+  pub since : IfSome w.quiet_at (λ k. EmptySince k h)
 
--- a load of `live`
+-- a load of `live`: one that gives some is by a caller that never found the bay quiet
 abbrev pub live_told : ℕ → ℕ → Tells
 live_told blocks who v old new w =
-    ((0 < old) × (w ≡ loaded v old)) ⊎ ((old ≡ 0) × ((h : List Noted) × FoundQuiet blocks who v w h))
+    ((0 < old) × (v.quiet_at ≡ None) × (w ≡ loaded v old))
+    ⊎ ((old ≡ 0) × ((h : List Noted) × FoundQuiet blocks who v w h))
 
 -- a step of the exit code
 abbrev pub exit_told : Tells

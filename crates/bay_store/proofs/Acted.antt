@@ -10,13 +10,16 @@ use Rattle.bay_core.specs.Contents.{Contents}
 use Rattle.bay_core.specs.Lawful.{Lawful}
 use Rattle.bay_core.specs.Noted.{reply_in, entry_of, after}
 use Rattle.bay_core.specs.History.{IsHistory, own}
+use Rattle.bay_rule.specs.declared.bay_use.BayUse.{BayUse}
 use Rattle.bay_rule.specs.declared.views.BayView.{BayView}
+use Rattle.bay_rule.specs.declared.views.Stage.{Stage}
 use Rattle.bay_rule.specs.Newest.{newest_reply}
 use Rattle.bay_rule.specs.Leaving.{note}
 use Rattle.bay_rule.specs.Told.{IsFrozen}
 use Rattle.bay_store.specs.Sharing.{MayAct, held_acted, owes_after}
 use Rattle.bay_store.specs.Acting.{rank_of, Acts}
 use Rattle.bay_store.specs.Calls.{Adds}
+use Rattle.bay_store.proofs.Layouts.{legal_in, lawful_in}
 
 -- the shares of who may act so, after this reply
 pub record Fit (reply : Reply) (held draws : ℕ) : Type 0 where
@@ -79,9 +82,21 @@ module _ (blocks who turn : ℕ) (op : Op) (item : ℕ) (before now : Caller Bay
       → Fit reply before.user.held draws
   fits draws may = fit blocks (after a.answered.history) op item reply before.user.held draws lawful may
 
+-- the view after an operation, which has nothing more to do
+pub acted_view : (v w : BayView) (held : ℕ)
+    → w ≡ record v { mine = w.mine; seen = w.seen; last = w.last; stage = w.stage; frozen = w.frozen; old = w.old; held = w.held }
+    → w.stage ≡ v.stage → w.held ≡ held
+    → w ≡ record v { mine = w.mine; seen = w.seen; last = w.last; frozen = w.frozen; old = w.old; held = held }
+acted_view v w held same stage is =
+    same
+    ∙ (ap (λ (s : Stage). record v { mine = w.mine; seen = w.seen; last = w.last; stage = s; frozen = w.frozen; old = w.old; held = w.held }) stage
+    ∙ ap (λ (h : ℕ). record v { mine = w.mine; seen = w.seen; last = w.last; frozen = w.frozen; old = w.old; held = h }) is)
+
+module _ (x : BayUse) (who turn : ℕ) (op : Op) (item : ℕ) (before now : Caller BayView) (rank : ℕ)
+    (reply : Reply) (a : Acts x.blocks who turn op item before.user now.user rank reply) where
   -- its receipt tells what it added
   pub adds : (first : ℕ) → who ≡ before.who → now.first ≡ Some first → turn ≤ first + 4
-      → Adds blocks op item before now (record {
+      → Adds x op item before now (record {
         entry = record { turn = turn; rank = rank; who = who; op = op; arg = item; reply = reply };
         first = first;
       })
@@ -92,15 +107,15 @@ module _ (blocks who turn : ℕ) (op : Op) (item : ℕ) (before now : Caller Bay
     seen = a.answered.seen;
     mine = a.answered.mine;
     all_mine = subst (λ c. now.user.mine ≡ own c now.user.seen) mine a.answered.of_seen;
-    entry = ap (λ r. entry_of (note turn rank who op item a.stored) r) (sym replies);
+    entry = ap (λ r. entry_of (note turn rank who op item a.stored) r) (sym (replies x.blocks who turn op item before now rank reply a));
     who = mine;
     op_is = refl;
     arg = refl;
     rank = a.rank_is ∙ ap (rank_of op) (sym a.answered.old_is);
     frozen = subst (λ f. IsFrozen op f (after a.answered.history)) (sym a.answered.frozen_is) a.answered.still;
     last = sym a.answered.last;
-    lawful = lawful;
-    legal = a.answered.legal;
+    lawful = lawful_in x.layout x.blocks (after a.answered.history) op item reply (lawful x.blocks who turn op item before now rank reply a);
+    legal = legal_in x.layout x.blocks now.user.seen a.answered.legal;
     first = looked;
     soon = soon;
     since = a.answered.since;

@@ -10,12 +10,14 @@ use Rattle.bay_core.specs.declared.calls.Reply.TheVariants.{Done, Full, Item, Em
 use Rattle.bay_core.specs.Contents.{Contents}
 use Rattle.bay_core.specs.Lawful.{Lawful}
 use Rattle.bay_core.specs.Noted.{after}
+use Rattle.bay_rule.specs.declared.bay_use.BayUse.{BayUse}
 use Rattle.bay_rule.specs.declared.views.BayView.{BayView}
 use Rattle.bay_store.specs.Shows.{Actor, Leaver}
 use Rattle.bay_store.specs.Sharing.{held_asking, held_acted, owes_after, held_leaving, held_called, holding}
 use Rattle.bay_store.specs.Asking.{GoesInto}
 use Rattle.bay_store.specs.Calls.{Adds, IsActed, Calls}
 use Rattle.bay_store.specs.declared.receipts.Receipt.{Receipt}
+use Rattle.bay_store.proofs.Layouts.{lawful_split}
 
 -- the shares from before the call to after it
 shares : (blocks : ℕ) (s : Contents) (op : Op) (item : ℕ) (reply : Reply) (held : ℕ)
@@ -38,12 +40,12 @@ shares blocks s Deq item Full held l = absurd l
 shares blocks s Deq item (Item y) held l = refl
 shares blocks s Deq item Empty held l = refl
 
-module _ (blocks : ℕ) (op : Op) (item : ℕ) (r : Receipt) where
+module _ (x : BayUse) (op : Op) (item : ℕ) (r : Receipt) where
   -- what a call adds does not rest on its caller's shares and draws, before it and now
   moved : (pass : Caller BayView) (draws share : ℕ) (seen : List Opening) (first : Option ℕ)
       (loads : ℕ) (d : Caller BayView) (held gone : ℕ)
-      → Adds blocks op item (record (holding pass share) { draws = draws; seen = seen; first = first; loads = loads }) d r
-      → Adds blocks op item pass (record (holding d held) { done = gone }) r
+      → Adds x op item (record (holding pass share) { draws = draws; seen = seen; first = first; loads = loads }) d r
+      → Adds x op item pass (record (holding d held) { done = gone }) r
   moved pass draws share seen first loads d held gone a = record {
     noted = a.noted;
     history = a.history;
@@ -66,24 +68,25 @@ module _ (blocks : ℕ) (op : Op) (item : ℕ) (r : Receipt) where
   }
 
   module _ (pass : Caller BayView) (i : Actor) (d : Leaver) (now : Caller BayView)
-      (goes : GoesInto pass op item i) (acted : IsActed blocks i d r)
+      (goes : GoesInto pass op item i) (acted : IsActed x i d r)
       (left : now ≡ record (holding d.insider.caller (held_leaving d.owes d.insider.caller.user.held)) { done = now.done }) where
-    mine : Adds blocks op item i.insider.caller d.insider.caller r
-    mine = subst (λ o. Adds blocks o item i.insider.caller d.insider.caller r) goes.op_is
-        (subst (λ x. Adds blocks i.op x i.insider.caller d.insider.caller r) goes.item_is acted.adds)
+    mine : Adds x op item i.insider.caller d.insider.caller r
+    mine = subst (λ o. Adds x o item i.insider.caller d.insider.caller r) goes.op_is
+        (subst (λ y. Adds x i.op y i.insider.caller d.insider.caller r) goes.item_is acted.adds)
 
-    adds : Adds blocks op item pass now r
-    adds = subst (λ c. Adds blocks op item pass c r) (sym left)
+    adds : Adds x op item pass now r
+    adds = subst (λ c. Adds x op item pass c r) (sym left)
         (moved pass _ _ _ _ _ d.insider.caller _ now.done
-        (subst (λ c. Adds blocks op item c d.insider.caller r) goes.goes.caller mine))
+        (subst (λ c. Adds x op item c d.insider.caller r) goes.goes.caller mine))
 
-    lawful : Lawful Split blocks (after adds.history) op item r.entry.reply
-    lawful = subst (λ o. Lawful Split blocks (after adds.history) o item r.entry.reply) adds.op_is
-        (subst (λ x. Lawful Split blocks (after adds.history) r.entry.op x r.entry.reply) adds.arg adds.lawful)
+    lawful : Lawful Split x.blocks (after adds.history) op item r.entry.reply
+    lawful = subst (λ o. Lawful Split x.blocks (after adds.history) o item r.entry.reply) adds.op_is
+        (subst (λ y. Lawful Split x.blocks (after adds.history) r.entry.op y r.entry.reply) adds.arg
+        (lawful_split x.layout x.blocks (after adds.history) r.entry.op r.entry.arg r.entry.reply adds.lawful))
 
     held : held_leaving d.owes (held_acted r.entry.reply (held_asking op pass.user.held)) ≡ held_called r.entry.reply pass.user.held
     held = ap (λ o. held_leaving o (held_acted r.entry.reply (held_asking op pass.user.held))) acted.owes
-        ∙ shares blocks (after adds.history) op item r.entry.reply pass.user.held lawful
+        ∙ shares x.blocks (after adds.history) op item r.entry.reply pass.user.held lawful
 
     -- the caller now, by the pass
     from_pass : (shares : ℕ) → Caller BayView
@@ -112,7 +115,7 @@ module _ (blocks : ℕ) (op : Op) (item : ℕ) (r : Receipt) where
         subst (λ (z : Caller BayView). now ≡ record (holding (record z { user = record z.user { mine = c.user.mine; seen = c.user.seen; last = c.user.last; frozen = c.user.frozen; old = c.user.old; held = held_acted r.entry.reply z.user.held } }) (held_leaving d.owes (held_acted r.entry.reply z.user.held))) { done = now.done }) goes.goes.caller by_insider
         ∙ ap from_pass held
 
-    pub called : pass.draws < pass.limit → Calls blocks op item pass now r
+    pub called : pass.draws < pass.limit → Calls x op item pass now r
     unfolding from_pass
     called had = record {
       adds = adds;

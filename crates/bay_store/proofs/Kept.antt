@@ -2,6 +2,7 @@
 use Rattle.std.proofs.Common.{◌≡◌, ◌∙◌, ℕ, ap}
 use Rattle.room_gate.specs.Shows.{Caller}
 use Rattle.bay_core.specs.declared.calls.Op.{Op}
+use Rattle.bay_rule.specs.declared.bay_use.BayUse.{BayUse}
 use Rattle.bay_rule.specs.declared.views.BayView.{BayView}
 use Rattle.bay_store.specs.Sharing.{held_called}
 use Rattle.bay_store.specs.Calls.{PutGives, TakeGives, held_taken}
@@ -10,8 +11,8 @@ use Rattle.bay_store.specs.declared.receipts.Pushed.TheVariants as pushed
 use Rattle.bay_store.specs.declared.receipts.Popped.{Popped}
 use Rattle.bay_store.specs.declared.receipts.Popped.TheVariants as popped
 
-module _ (blocks : ℕ) (op : Op) (before now : Caller BayView) where
-  pub put_held : (item : ℕ) (p : Pushed) → PutGives blocks op item before now p
+module _ (x : BayUse) (op : Op) (before now : Caller BayView) where
+  pub put_held : (item : ℕ) (p : Pushed) → PutGives x op item before now p
       → now.user.held ≡ before.user.held
   put_held item (pushed.Stored r) g =
       ap (λ c. c.user.held) g.0.same ∙ ap (λ y. held_called y before.user.held) g.1
@@ -19,13 +20,13 @@ module _ (blocks : ℕ) (op : Op) (before now : Caller BayView) where
       ap (λ c. c.user.held) g.0.same ∙ ap (λ y. held_called y before.user.held) g.1
   put_held item pushed.Spent g = ap (λ c. c.user.held) g.same
 
-  pub put_site : (item : ℕ) (p : Pushed) → PutGives blocks op item before now p
+  pub put_site : (item : ℕ) (p : Pushed) → PutGives x op item before now p
       → now.site ≡ before.site
   put_site item (pushed.Stored r) g = ap (λ c. c.site) g.0.same
   put_site item (pushed.Full r) g = ap (λ c. c.site) g.0.same
   put_site item pushed.Spent g = ap (λ c. c.site) g.same
 
-  pub take_held : (p : Popped) → TakeGives blocks op before now p
+  pub take_held : (p : Popped) → TakeGives x op before now p
       → now.user.held ≡ held_taken p before.user.held
   take_held (popped.Item item r) g =
       ap (λ c. c.user.held) g.0.same ∙ ap (λ y. held_called y before.user.held) g.1
@@ -33,7 +34,7 @@ module _ (blocks : ℕ) (op : Op) (before now : Caller BayView) where
       ap (λ c. c.user.held) g.0.same ∙ ap (λ y. held_called y before.user.held) g.1
   take_held popped.Spent g = ap (λ c. c.user.held) g.same
 
-  pub take_site : (p : Popped) → TakeGives blocks op before now p → now.site ≡ before.site
+  pub take_site : (p : Popped) → TakeGives x op before now p → now.site ≡ before.site
   take_site (popped.Item item r) g = ap (λ c. c.site) g.0.same
   take_site (popped.Empty r) g = ap (λ c. c.site) g.0.same
   take_site popped.Spent g = ap (λ c. c.site) g.same

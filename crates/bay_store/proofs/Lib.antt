@@ -1,3 +1,4 @@
+pub mod Layouts
 pub mod Making
 pub mod Listening
 pub mod AllShares

@@ -1,7 +1,6 @@
 -- What one call leaves of its caller.
 use Rattle.std.specs.Prelude.{◌≡◌, ℕ, ◌+◌, ◌<◌, ◌≤◌, List, ◌∷◌, Option, Some, None, MatchOption, IfSome}
 use Rattle.room_gate.specs.Shows.{Caller}
-use Rattle.bay_core.specs.declared.calls.Layout.TheVariants.{Split}
 use Rattle.bay_core.specs.declared.calls.Op.{Op}
 use Rattle.bay_core.specs.declared.calls.Reply.{Reply}
 use Rattle.bay_core.specs.declared.calls.Reply.TheVariants.{Done, Full, Item, Empty}
@@ -9,6 +8,7 @@ use Rattle.bay_core.specs.declared.calls.Noted.{Noted}
 use Rattle.bay_core.specs.Noted.{entry_in, after}
 use Rattle.bay_core.specs.Replay.{IsLawful}
 use Rattle.bay_core.specs.History.{IsHistory, own, GoesOn}
+use Rattle.bay_rule.specs.declared.bay_use.BayUse.{BayUse}
 use Rattle.bay_rule.specs.declared.views.BayView.{BayView}
 use Rattle.bay_rule.specs.Newest.{EmptySince}
 use Rattle.bay_rule.specs.Told.{IsFrozen}
@@ -22,7 +22,7 @@ use Rattle.bay_store.specs.declared.receipts.Popped.{Popped}
 use Rattle.bay_store.specs.declared.receipts.Popped.TheVariants as popped
 
 -- A call with an entry, by its caller before and now, and its receipt.
-pub record Adds (blocks : ℕ) (op : Op) (item : ℕ) (before now : Caller BayView)
+pub record Adds (x : BayUse) (op : Op) (item : ℕ) (before now : Caller BayView)
     (receipt : Receipt) : Type 0 where
   pub noted : Noted
   pub history : List Noted
@@ -42,8 +42,8 @@ pub record Adds (blocks : ℕ) (op : Op) (item : ℕ) (before now : Caller BayVi
   pub last : receipt.entry.turn ≡ now.user.last
   -- The entry may have its reply there: with Full there were 32 items for each block, with Empty
   -- none, and an Item was the top one or the oldest one. The whole history is legal and roomed.
-  pub lawful : IsLawful Split blocks (after history) receipt.entry
-  pub legal : IsHistory Split blocks now.user.seen
+  pub lawful : IsLawful x.layout x.blocks (after history) receipt.entry
+  pub legal : IsHistory x.layout x.blocks now.user.seen
   -- its turn came at most four turns after the caller's first look
   pub first : now.first ≡ Some receipt.first
   pub soon : receipt.entry.turn ≤ receipt.first + 4
@@ -51,8 +51,8 @@ pub record Adds (blocks : ℕ) (op : Op) (item : ℕ) (before now : Caller BayVi
   pub since : IfSome now.user.quiet_at (λ k. EmptySince k now.user.seen)
 
 -- an insider did its operation: nothing else changed but its shares
-pub record IsActed (blocks : ℕ) (i : Actor) (d : Leaver) (receipt : Receipt) : Type 0 where
-  pub adds : Adds blocks i.op i.item i.insider.caller d.insider.caller receipt
+pub record IsActed (x : BayUse) (i : Actor) (d : Leaver) (receipt : Receipt) : Type 0 where
+  pub adds : Adds x i.op i.item i.insider.caller d.insider.caller receipt
   pub turn : receipt.entry.turn ≡ i.insider.opening.turn
   pub owes : d.owes ≡ owes_after receipt.entry.reply
   pub same : d.insider ≡ record i.insider {
@@ -70,9 +70,9 @@ pub record IsActed (blocks : ℕ) (i : Actor) (d : Leaver) (receipt : Receipt) :
   }
 
 -- a whole call with an entry: it had a draw left and made it, and nothing else changed
-pub record Calls (blocks : ℕ) (op : Op) (item : ℕ) (before now : Caller BayView)
+pub record Calls (x : BayUse) (op : Op) (item : ℕ) (before now : Caller BayView)
     (receipt : Receipt) : Type 0 where
-  pub adds : Adds blocks op item before now receipt
+  pub adds : Adds x op item before now receipt
   pub had : before.draws < before.limit
   pub same : now ≡ record before {
     draws = before.draws + 1;
@@ -96,25 +96,25 @@ pub record StaysOut (before now : Caller BayView) : Type 0 where
   pub same : now ≡ before
 
 -- a call, by its receipt if there is one
-abbrev pub CallGives : ℕ → Op → ℕ → Caller BayView → Caller BayView → Option Receipt → Type 0
-CallGives blocks op item before now receipt =
-    MatchOption receipt (StaysOut before now) (Calls blocks op item before now)
+abbrev pub CallGives : BayUse → Op → ℕ → Caller BayView → Caller BayView → Option Receipt → Type 0
+CallGives x op item before now receipt =
+    MatchOption receipt (StaysOut before now) (Calls x op item before now)
 
 -- a call that puts an item in, by its answer
-abbrev pub PutGives : ℕ → Op → ℕ → Caller BayView → Caller BayView → Pushed → Type 0
-PutGives blocks op item before now (pushed.Stored r) =
-    Calls blocks op item before now r × (r.entry.reply ≡ Done)
-PutGives blocks op item before now (pushed.Full r) =
-    Calls blocks op item before now r × (r.entry.reply ≡ Full)
-PutGives blocks op item before now pushed.Spent = StaysOut before now
+abbrev pub PutGives : BayUse → Op → ℕ → Caller BayView → Caller BayView → Pushed → Type 0
+PutGives x op item before now (pushed.Stored r) =
+    Calls x op item before now r × (r.entry.reply ≡ Done)
+PutGives x op item before now (pushed.Full r) =
+    Calls x op item before now r × (r.entry.reply ≡ Full)
+PutGives x op item before now pushed.Spent = StaysOut before now
 
 -- a call that takes an item out, by its answer
-abbrev pub TakeGives : ℕ → Op → Caller BayView → Caller BayView → Popped → Type 0
-TakeGives blocks op before now (popped.Item item r) =
-    Calls blocks op 0 before now r × (r.entry.reply ≡ Item item)
-TakeGives blocks op before now (popped.Empty r) =
-    Calls blocks op 0 before now r × (r.entry.reply ≡ Empty)
-TakeGives blocks op before now popped.Spent = StaysOut before now
+abbrev pub TakeGives : BayUse → Op → Caller BayView → Caller BayView → Popped → Type 0
+TakeGives x op before now (popped.Item item r) =
+    Calls x op 0 before now r × (r.entry.reply ≡ Item item)
+TakeGives x op before now (popped.Empty r) =
+    Calls x op 0 before now r × (r.entry.reply ≡ Empty)
+TakeGives x op before now popped.Spent = StaysOut before now
 
 -- the shares after a call that takes an item out, by its answer
 abbrev pub held_taken : Popped → ℕ → ℕ

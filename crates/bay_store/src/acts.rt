@@ -30,7 +30,7 @@ impl Bay {
     /// that it has in the history there. It waits for nobody and takes no memory.
     pub fn act(&self, inside: BayInside) -> BayActed
         requires { inside.insider.caller.site ≡ self.now.site }
-        ensures { MatchActed result (IsActed self.now.usage.blocks inside) }
+        ensures { MatchActed result (IsActed self.now.usage inside) }
     {
         let (done, receipt) = self.answer(inside);
         BayActed::Answered(done, receipt)
@@ -39,7 +39,7 @@ impl Bay {
     // Does the operation, and gives its receipt.
     pub(crate) fn answer(&self, inside: BayInside) -> (BayDone, Receipt)
         requires { inside.insider.caller.site ≡ self.now.site }
-        ensures { IsActed self.now.usage.blocks inside result.0 result.1 }
+        ensures { IsActed self.now.usage inside result.0 result.1 }
     {
         let BayInside {
             mut inside,

@@ -22,7 +22,7 @@ impl Bay {
     pub fn push<R: Wait>(&self, rt: &R, pass: BayPass, item: u64) -> (BayPass, Pushed)
         requires own { pass.site ≡ self.now.site }
         requires share { 1 ≤ pass.user.held }
-        ensures gives { PutGives self.now.usage.blocks ops.Push item pass result.0 result.1 }
+        ensures gives { PutGives self.now.usage ops.Push item pass result.0 result.1 }
         ensures same_bay { result.0.site ≡ pass.site }
         ensures held { result.0.user.held ≡ pass.user.held }
     {
@@ -35,7 +35,7 @@ impl Bay {
     /// before it to leave, and takes no memory.
     pub fn pop<R: Wait>(&self, rt: &R, pass: BayPass) -> (BayPass, Popped)
         requires own { pass.site ≡ self.now.site }
-        ensures gives { TakeGives self.now.usage.blocks ops.Pop pass result.0 result.1 }
+        ensures gives { TakeGives self.now.usage ops.Pop pass result.0 result.1 }
         ensures same_bay { result.0.site ≡ pass.site }
         ensures held { result.0.user.held ≡ held_taken result.1 pass.user.held }
     {
@@ -49,7 +49,7 @@ impl Bay {
     pub fn enqueue<R: Wait>(&self, rt: &R, pass: BayPass, item: u64) -> (BayPass, Pushed)
         requires own { pass.site ≡ self.now.site }
         requires share { 1 ≤ pass.user.held }
-        ensures gives { PutGives self.now.usage.blocks ops.Enq item pass result.0 result.1 }
+        ensures gives { PutGives self.now.usage ops.Enq item pass result.0 result.1 }
         ensures same_bay { result.0.site ≡ pass.site }
         ensures held { result.0.user.held ≡ pass.user.held }
     {
@@ -62,7 +62,7 @@ impl Bay {
     /// in before it to leave, and takes no memory.
     pub fn dequeue<R: Wait>(&self, rt: &R, pass: BayPass) -> (BayPass, Popped)
         requires own { pass.site ≡ self.now.site }
-        ensures gives { TakeGives self.now.usage.blocks ops.Deq pass result.0 result.1 }
+        ensures gives { TakeGives self.now.usage ops.Deq pass result.0 result.1 }
         ensures same_bay { result.0.site ≡ pass.site }
         ensures held { result.0.user.held ≡ held_taken result.1 pass.user.held }
     {
@@ -75,7 +75,7 @@ impl Bay {
     fn call<R: Wait>(&self, rt: &R, pass: BayPass, op: Op, item: u64) -> (BayPass, Option<Receipt>)
         requires own { pass.site ≡ self.now.site }
         requires may { MayAsk op item pass.user.held }
-        ensures { CallGives self.now.usage.blocks op item pass result.0 result.1 }
+        ensures { CallGives self.now.usage op item pass result.0 result.1 }
     {
         match self.go_in(rt, pass, op, item) {
             Ok(inside) => {

@@ -1,5 +1,5 @@
 //! The shares of a caller: giving them back, and asking whether any are left.
-ghost use Rattle.std.specs.Prelude.{◌≡◌, ◌-◌, ◌<◌, ◌≤◌, ◌==◌, true, false};
+ghost use Rattle.std.specs.Prelude.{◌≡◌, ◌-◌, ◌<◌, ◌≤◌, ◌==◌, true, false, None};
 ghost use Rattle.bay_store.specs.Sharing.{holding};
 ghost use Rattle.bay_store.specs.Quiet.{hearing, hearing_quiet, IsQuietFor};
 
@@ -29,13 +29,15 @@ impl Bay {
 
     /// Asks whether the bay is quiet: no list has an item, and nobody holds a share. It is one load
     /// of `live`, which the pass counts; the first that gives 0 tells the pass for good that only
-    /// empty replies can come. It waits for nobody and takes no memory.
+    /// empty replies can come, and each later one gives 0 too. It waits for nobody and takes no
+    /// memory.
     pub fn quiet(&self, pass: &mut BayPass) -> bool
         requires own { pass.old.site ≡ self.now.site }
         ensures value { result ≡ (pass.new.user.live == 0) }
         ensures some { result ≡ false → pass.new ≡ hearing pass.old pass.new.user.live }
+        ensures never { result ≡ false → pass.old.user.quiet_at ≡ None }
         ensures none { result ≡ true → pass.new ≡ hearing_quiet pass.old pass.new.user.seen }
-        ensures history { result ≡ true → IsQuietFor self.now.usage.blocks pass.old pass.new.user.seen }
+        ensures history { result ≡ true → IsQuietFor self.now.usage pass.old pass.new.user.seen }
     {
         let blocks = self.rooms.usage().blocks();
         let who = pass.pass.who();

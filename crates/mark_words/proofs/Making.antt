@@ -28,6 +28,7 @@ hired_is_new {S} seat maker site number own e counted = λ i. record {
   number = (ap (λ (z : Me S Known). z.0.number) e ∙ counted) i;
   won = (e i).0.won;
   found = (e i).0.found;
+  old = (e i).0.old;
 }
 
 pub no_seats : (site : TableId) (seats : List Claimant) → seats ≡ [] → AreSeats site 0 seats

@@ -14,7 +14,7 @@ use Rattle.mark_words.specs.View.{maker, after_hire, hired, nobody, taken_in, cl
 use Rattle.mark_words.specs.declared.rule.Plan.{Plan}
 use Rattle.mark_words.specs.declared.views.Known.{Known}
 use Rattle.mark_words.proofs.Bits.{with_bit, bit_same, bit_other, bit_stays, no_bit, same_bit}
-use Rattle.mark_words.proofs.Totals.{times_same, times_other, times_append, total_set, total_append}
+use Rattle.mark_words.proofs.Totals.{times_same, times_other, times_append, total_set, total_append, part_le}
 
 -- one view alone
 only : (v w : Known) (j : ℕ) → IsAt (v ∷ []) j w → v ≡ w
@@ -150,11 +150,11 @@ module _ {S : Type 0} (k : Plan) where
     views = set s.views id w;
   }
 
-  claimed_rule : (s : State S Known) (id : ℕ) (v : Known) (b : ℕ) → Ruled k s → b < k.bits
+  claimed_rule : (s : State S Known) (id : ℕ) (v : Known) (b word : ℕ) → Ruled k s → b < k.bits
       → IsAt s.views id v → v.parts ≡ 1 → (d : ℕ) → bit_of s.words b ≡ d
-      → Ruled k (after s id b (claims b d v))
-  claimed_rule s id v b r below at part zero is =
-      let new = claims b zero v in
+      → Ruled k (after s id b (claims b word d v))
+  claimed_rule s id v b word r below at part zero is =
+      let new = claims b word zero v in
       let wide : b / 64 < length s.words = (let w = r.wide in omega arith) in
       record {
         won = λ c. (let p = total_set (λ z. times c z.won) s.views id v new at in
@@ -182,8 +182,8 @@ module _ {S : Type 0} (k : Plan) where
             (λ (t : (j ≢ id) × IsAt s.views j x). r.idle j x t.1 e)
             (at_set s.views id j new x there);
       }
-  claimed_rule s id v b r below at part (suc d) is =
-      let new = claims b (suc d) v in
+  claimed_rule s id v b word r below at part (suc d) is =
+      let new = claims b word (suc d) v in
       let wide : b / 64 < length s.words = (let w = r.wide in omega arith) in
       let one : bit_of s.words b ≡ 1 =
       (let small = Rattle.mark_words.proofs.Bits.bit_small s.words b in omega arith) in
@@ -229,18 +229,30 @@ module _ {S : Type 0} (k : Plan) where
       let at_word : b / 64 ≡ word = sym is_word in let with_mask : 2 ^ (b % 64) ≡ mask = sym is_mask in
       let same : with_bit s.words b ≡ set s.words word (bit_or found mask) =
       λ i. set s.words (at_word i) (bit_or (get_or s.words (at_word i) 0) (with_mask i)) in (
-        claims b d me.0,
+        claims b found d me.0,
         keeps,
         tt,
         subst (λ (l : List ℕ). Ruled k (record {
           words = l;
           homes = s.homes;
-          views = set s.views id (claims b d me.0);
-        })) same (claimed_rule s id me.0 b r below at part d refl),
+          views = set s.views id (claims b found d me.0);
+        })) same (claimed_rule s id me.0 b found r below at part d refl),
         record {
           view = λ c its_word its_mask.
               let e : b ≡ c = same_bit b c (sym is_word ∙ its_word) (sym is_mask ∙ its_mask) in
-              λ i. claims (e i) (bit_at (get_or s.words (at_word i) 0) (e i % 64)) me.0;
+              λ i. claims (e i) found (bit_at (get_or s.words (at_word i) 0) (e i % 64)) me.0;
+          fresh = λ c its_word its_mask clear.
+              let low = part_le (λ (z : Known). times c z.won) s.views id me.0 at in
+              let all = r.won c in
+              let none : bit_of s.words c ≡ 0 =
+              ap (λ (i : ℕ). bit_at (get_or s.words i 0) (c % 64)) (sym its_word) ∙ clear in
+              (
+                omega (arith, low, all, none),
+                elim (cases_eq (times c me.0.found) 0) [
+                  | inl absent ↦ absent
+                  | inr there ↦ absurd (let one = r.found id me.0 c at (omega (arith, there)) in omega (arith, one, none))
+                ],
+              );
           slots = refl;
         },
       )

@@ -12,6 +12,7 @@ shown seat = record {
   number = seat.me.0.number;
   won = seat.me.0.won;
   found = seat.me.0.found;
+  old = seat.me.0.old;
 }
 
 -- what the token shows

@@ -5,7 +5,7 @@ use Rattle.mark_words.specs.declared.views.Known.{Known}
 
 -- the seat that makes the others: it has all the parts
 abbrev pub maker : Plan → Known
-maker k = record { number = 0; parts = k.seats; won = []; found = [] }
+maker k = record { number = 0; parts = k.seats; won = []; found = []; old = 0 }
 
 -- it has made one more
 abbrev pub after_hire : Known → Known
@@ -13,11 +13,11 @@ after_hire v = record v { number = v.number + 1; parts = v.parts - 1 }
 
 -- the one that it made
 abbrev pub hired : Known → Known
-hired v = record { number = v.number; parts = 1; won = []; found = [] }
+hired v = record { number = v.number; parts = 1; won = []; found = []; old = 0 }
 
 -- a seat with no part, that won nothing and found nothing
 abbrev pub nobody : Known
-nobody = record { number = 0; parts = 0; won = []; found = [] }
+nobody = record { number = 0; parts = 0; won = []; found = []; old = 0 }
 
 -- a seat takes in another
 abbrev pub taken_in : Known → Known → Known
@@ -27,7 +27,7 @@ taken_in v w = record v {
   found = w.found ++ v.found;
 }
 
--- a seat claims the bit, which was 0 or 1
-abbrev pub claims : ℕ → ℕ → Known → Known
-claims b zero v = record v { won = b ∷ v.won }
-claims b (suc _) v = record v { found = b ∷ v.found }
+-- a seat claims the bit, which was 0 or 1 in the word that it found
+abbrev pub claims : ℕ → ℕ → ℕ → Known → Known
+claims b word zero v = record v { won = b ∷ v.won; old = word }
+claims b word (suc _) v = record v { found = b ∷ v.found; old = word }

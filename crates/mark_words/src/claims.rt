@@ -1,5 +1,7 @@
 //! A claim of a bit.
-ghost use Rattle.std.specs.Prelude.{◌≡◌, ◌<◌};
+ghost use Rattle.std.specs.Prelude.{◌≡◌, ◌<◌, ◌%◌, true, if◌then◌else◌};
+ghost use Rattle.std.specs.Int.{bit_at};
+ghost use Rattle.mark_words.specs.Bits.{times};
 ghost use Rattle.mark_words.specs.Shows.{claimed};
 
 use crate::plays::Claiming;
@@ -8,12 +10,15 @@ use crate::set_ups::Claims;
 
 impl Claims {
     /// Sets the bit, and answers whether it was clear: true exactly where this step set it. The
-    /// seat then shows the bit among those that it won, and else among those that it found set. It
-    /// takes no memory and waits for nobody.
+    /// seat then shows the bit among those that it won, and had shown it nowhere before; else it shows
+    /// it among those that it found set. It shows the word that its step found, which tells the answer.
+    /// It takes no memory and waits for nobody.
     pub fn claim(&self, seat: &mut ClaimSeat, bit: u32) -> bool
         requires bit { bit < self.now.bits }
         requires own { seat.old.site ≡ self.now.site }
-        ensures { seat.new ≡ claimed bit result seat.old }
+        ensures seat { seat.new ≡ claimed bit seat.new.old result seat.old }
+        ensures old { bit_at seat.new.old (bit % 64) ≡ (if result then 0 else 1) }
+        ensures fresh { result ≡ true → (times bit seat.old.won ≡ 0) × (times bit seat.old.found ≡ 0) }
     {
         let place = bit % 64;
         let table = &self.table.shared;

@@ -11,4 +11,6 @@ pub struct Known {
     pub won: LinkedList<u32>,
     /// The bits that it found set, newest first.
     pub found: LinkedList<u32>,
+    /// The word that its last claim found, or 0.
+    pub old: u64,
 }

@@ -18,7 +18,7 @@ of_other : (c : ℕ) (e : Entry) → e.who ≢ c → of_caller c (e ∷ []) ≡ 
 of_other c e not = ap (λ b. cond b (e ∷ []) []) (ne_eqb e.who c not)
 
 -- one call more
-told_step : (c : ℕ) (n : Noted) (h : List Noted)
+pub told_step : (c : ℕ) (n : Noted) (h : List Noted)
     → told c (n ∷ h) ≡ told c h ++ of_caller c (entry_in (after h) n ∷ [])
 told_step c n h =
     let e = entry_in (after h) n in
@@ -26,7 +26,7 @@ told_step c n h =
     ∙ filter-append (λ d. eqb d.who c) (reverse (entries h)) (e ∷ [])
 
 -- of this caller
-told_own : (c : ℕ) (n : Noted) (h : List Noted) → n.who ≡ c
+pub told_own : (c : ℕ) (n : Noted) (h : List Noted) → n.who ≡ c
     → told c (n ∷ h) ≡ told c h ++ entry_in (after h) n ∷ []
 told_own c n h is =
     told_step c n h ∙ ap (λ es. told c h ++ es) (of_same c (entry_in (after h) n) is)

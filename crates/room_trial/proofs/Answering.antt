@@ -8,6 +8,7 @@ use Rattle.bay_core.specs.declared.calls.Reply.TheVariants.{Done, Full, Item, Em
 use Rattle.bay_core.specs.declared.calls.Entry.{Entry}
 use Rattle.bay_core.specs.declared.calls.Op.{Op}
 use Rattle.bay_core.specs.History.{own, GoesOn}
+use Rattle.bay_rule.specs.declared.bay_use.BayUse.{BayUse}
 use Rattle.bay_rule.specs.declared.views.BayView.{BayView}
 use Rattle.bay_store.specs.Calls.{Calls, StaysOut}
 use Rattle.bay_store.specs.Sharing.{held_called}
@@ -80,8 +81,8 @@ shares_more es e held =
     ∙ omega (arith, sum_by-append (λ d. taken_of d.reply) es (e ∷ []))
 
 -- one line more
-module _ (blocks : ℕ) (lines : List Line) (k : ℕ) (before now then : Caller BayView) (es : List Entry) (line : Line) (r : Receipt) where
-  same_more : Calls blocks (asked line).0 (asked line).1 now then r → now ≡ after_calls before now es
+module _ (x : BayUse) (lines : List Line) (k : ℕ) (before now then : Caller BayView) (es : List Entry) (line : Line) (r : Receipt) where
+  same_more : Calls x (asked line).0 (asked line).1 now then r → now ≡ after_calls before now es
       → then ≡ after_calls before then (es ++ r.entry ∷ [])
   same_more c same =
       let step : then ≡ called_to before then (before.draws + length es + 1) (held_called r.entry.reply (before.user.held + items_taken es)) =
@@ -105,7 +106,7 @@ module _ (blocks : ℕ) (lines : List Line) (k : ℕ) (before now then : Caller 
       step ∙ (ap (λ d. called_to before then d (held_called r.entry.reply (before.user.held + items_taken es))) draws
       ∙ ap (λ h. called_to before then (before.draws + length (es ++ r.entry ∷ [])) h) (shares_more es r.entry before.user.held))
 
-  entries_more : SoFar lines k before now es → Calls blocks (asked line).0 (asked line).1 now then r
+  entries_more : SoFar lines k before now es → Calls x (asked line).0 (asked line).1 now then r
       → now.who ≡ before.who
       → told before.who then.user.seen ≡ told before.who before.user.seen ++ (es ++ r.entry ∷ [])
   entries_more so_far c who =
@@ -120,7 +121,7 @@ module _ (blocks : ℕ) (lines : List Line) (k : ℕ) (before now then : Caller 
       ∙ append_assoc (told before.who before.user.seen) es (r.entry ∷ []))))
 
   pub one_more : SoFar lines k before now es → (d : Line) → k < length lines → get_or lines k d ≡ line
-      → Calls blocks (asked line).0 (asked line).1 now then r
+      → Calls x (asked line).0 (asked line).1 now then r
       → SoFar lines (k + 1) before then (es ++ r.entry ∷ [])
   one_more so_far d within at c =
       let same = so_far.same in

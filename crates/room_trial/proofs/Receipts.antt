@@ -2,6 +2,7 @@
 use Rattle.std.proofs.Common.{ℕ, ◌≤◌, arith}
 use Rattle.room_gate.specs.Shows.{Caller}
 use Rattle.bay_core.specs.declared.calls.Op.{Op}
+use Rattle.bay_rule.specs.declared.bay_use.BayUse.{BayUse}
 use Rattle.bay_rule.specs.declared.views.BayView.{BayView}
 use Rattle.bay_store.specs.Calls.{CallGives, PutGives, TakeGives, held_taken}
 use Rattle.bay_store.specs.declared.receipts.Pushed.{Pushed}
@@ -10,17 +11,17 @@ use Rattle.bay_store.specs.declared.receipts.Popped.{Popped}
 use Rattle.bay_store.specs.declared.receipts.Popped.TheVariants as popped
 use Rattle.room_trial.specs.Receipts.{put_receipt, take_receipt}
 
-pub put_gives : (blocks : ℕ) (op : Op) (item : ℕ) (before now : Caller BayView) (p : Pushed)
-    → PutGives blocks op item before now p → CallGives blocks op item before now (put_receipt p)
-put_gives blocks op item before now (pushed.Stored r) g = g.0
-put_gives blocks op item before now (pushed.Full r) g = g.0
-put_gives blocks op item before now pushed.Spent g = g
+pub put_gives : (x : BayUse) (op : Op) (item : ℕ) (before now : Caller BayView) (p : Pushed)
+    → PutGives x op item before now p → CallGives x op item before now (put_receipt p)
+put_gives x op item before now (pushed.Stored r) g = g.0
+put_gives x op item before now (pushed.Full r) g = g.0
+put_gives x op item before now pushed.Spent g = g
 
-pub take_gives : (blocks : ℕ) (op : Op) (before now : Caller BayView) (p : Popped)
-    → TakeGives blocks op before now p → CallGives blocks op 0 before now (take_receipt p)
-take_gives blocks op before now (popped.Item item r) g = g.0
-take_gives blocks op before now (popped.Empty r) g = g.0
-take_gives blocks op before now popped.Spent g = g
+pub take_gives : (x : BayUse) (op : Op) (before now : Caller BayView) (p : Popped)
+    → TakeGives x op before now p → CallGives x op 0 before now (take_receipt p)
+take_gives x op before now (popped.Item item r) g = g.0
+take_gives x op before now (popped.Empty r) g = g.0
+take_gives x op before now popped.Spent g = g
 
 -- a call that takes an item leaves no fewer shares
 pub taken_more : (p : Popped) (held : ℕ) → held ≤ held_taken p held

@@ -19,7 +19,7 @@ pub fn call_line<R: Wait>(
 ) -> (BayPass, Option<Receipt>)
     requires own { pass.site ≡ bay.now.site }
     requires share { 1 ≤ pass.user.held }
-    ensures gives { CallGives bay.now.usage.blocks (asked line).0 (asked line).1 pass result.0 result.1 }
+    ensures gives { CallGives bay.now.usage (asked line).0 (asked line).1 pass result.0 result.1 }
     ensures same_bay { result.0.site ≡ pass.site }
     ensures same_caller { result.0.who ≡ pass.who }
     ensures share { 1 ≤ result.0.user.held }

@@ -1,3 +1,4 @@
+pub mod Gaining
 pub mod Putting
 pub mod Taking
 pub mod Running

@@ -1,15 +1,50 @@
 -- The answer of a put tells what the bay's call told.
-use Rattle.std.proofs.Common.{ℕ, refl}
+use Rattle.std.proofs.Common.{◌≡◌, ◌∙◌, ℕ, ◌≤◌, refl, sym, ap, subst, arith}
 use Rattle.room_gate.specs.Shows.{Caller}
+use Rattle.bay_core.specs.History.{own}
 use Rattle.bay_core.specs.declared.calls.Op.{Op}
+use Rattle.bay_core.specs.declared.calls.Reply.{Reply}
+use Rattle.bay_core.specs.declared.calls.Reply.TheVariants as replies
+use Rattle.bay_rule.specs.declared.bay_use.BayUse.{BayUse}
 use Rattle.bay_rule.specs.declared.views.BayView.{BayView}
-use Rattle.bay_store.specs.Calls.{PutGives}
+use Rattle.bay_store.specs.Calls.{Calls, StaysOut, PutGives}
+use Rattle.bay_store.specs.Sharing.{held_called}
+use Rattle.bay_store.specs.declared.receipts.Receipt.{Receipt}
 use Rattle.bay_store.specs.declared.receipts.Pushed.{Pushed}
 use Rattle.bay_store.specs.declared.receipts.Pushed.TheVariants as pushed
-use Rattle.work_pool.specs.Puts.{Puts, answer_to}
+use Rattle.work_pool.specs.Puts.{IsStill, PutsIn, PutsNone, Puts, answer_to}
+use Rattle.work_pool.proofs.Gaining.{gains_none, gains_call}
 
-pub put_tells : (blocks : ℕ) (op : Op) (item : ℕ) (before now : Caller BayView) (p : Pushed)
-    → PutGives blocks op item before now p → Puts blocks op item before now (answer_to p item)
-put_tells blocks op item before now (pushed.Stored r) g = g
-put_tells blocks op item before now (pushed.Full r) g = (refl, r, g.0, g.1)
-put_tells blocks op item before now pushed.Spent g = (refl, g)
+module _ (x : BayUse) (op : Op) (item : ℕ) (before now : Caller BayView) (mine : before.user.mine ≡ own before.who before.user.seen) where
+  still_after : (r : Receipt) → Calls x op item before now r
+      → held_called r.entry.reply before.user.held ≡ before.user.held → IsStill before now
+  still_after r c held = record {
+    held = ap (λ (p : Caller BayView). p.user.held) c.same ∙ held;
+    quiet_at = ap (λ (p : Caller BayView). p.user.quiet_at) c.same;
+    loads = ap (λ (p : Caller BayView). p.user.loads) c.same;
+    bare_loads = ap (λ (p : Caller BayView). p.user.bare_loads) c.same;
+    live = ap (λ (p : Caller BayView). p.user.live) c.same;
+  }
+
+  puts_in : (r : Receipt) (reply : Reply) → Calls x op item before now r → r.entry.reply ≡ reply
+      → held_called reply before.user.held ≡ before.user.held
+      → PutsIn x op item reply before now r
+  puts_in r reply c is held = record {
+    adds = c.adds;
+    reply_is = is;
+    gains = gains_call x op item before now r mine c;
+    still = still_after r c (ap (λ y. held_called y before.user.held) is ∙ held);
+  }
+
+  puts_none : before.draws ≤ before.limit → StaysOut before now → PutsNone x before now
+  puts_none limited out = subst (λ (p : Caller BayView). PutsNone x before p) (sym out.same) (record {
+    gains = gains_none x before mine limited;
+    spent = out.spent;
+    still = record { held = refl; quiet_at = refl; loads = refl; bare_loads = refl; live = refl };
+  })
+
+  pub put_tells : before.draws ≤ before.limit → (p : Pushed) → PutGives x op item before now p
+      → Puts x op item before now (answer_to p item)
+  put_tells limited (pushed.Stored r) g = puts_in r replies.Done g.0 g.1 refl
+  put_tells limited (pushed.Full r) g = (refl, r, puts_in r replies.Full g.0 g.1 refl)
+  put_tells limited pushed.Spent g = (refl, puts_none limited g)

@@ -19,6 +19,12 @@ abbrev pub miss_of : Deed → List Entry
 miss_of (Missed e) = e ∷ []
 miss_of _ = []
 
+-- the entry of a try to take
+abbrev pub try_of : Deed → List Entry
+try_of (Missed e) = e ∷ []
+try_of (Took item e) = e ∷ []
+try_of _ = []
+
 -- the item that a deed offered
 abbrev pub offer_of : Deed → List ℕ
 offer_of (Stored item e) = item ∷ []
@@ -56,6 +62,10 @@ calls run = flat_map call_of run
 -- the entries of its tries that found nothing
 abbrev pub missed : List Deed → List Entry
 missed run = flat_map miss_of run
+
+-- the entries of all its tries to take
+abbrev pub tried : List Deed → List Entry
+tried run = flat_map try_of run
 
 -- the items that were offered in a run
 abbrev pub offered : List Deed → List ℕ

@@ -1,6 +1,7 @@
 pub mod Shows
 pub mod Tokens
 pub mod Ways
+pub mod Gaining
 pub mod Puts
 pub mod Takes
 pub mod Tries
@@ -8,3 +9,4 @@ pub mod Standing
 pub mod Deeds
 pub mod Drives
 pub mod Running
+pub mod Crews

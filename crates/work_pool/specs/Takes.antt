@@ -1,19 +1,17 @@
 -- What one take leaves of its caller.
-use Rattle.std.specs.Prelude.{◌≡◌, ℕ, ◌+◌, ◌-◌, ◌^◌, ◌<◌, ◌↔◌, min, List, [], ◌∷◌, ◌++◌, length, All, Option}
+use Rattle.std.specs.Prelude.{◌≡◌, ◌≢◌, ℕ, ◌+◌, ◌-◌, ◌^◌, ◌<◌, ◌↔◌, min, List, [], ◌∷◌, ◌++◌, length, All, Option, None}
 use Rattle.room_gate.specs.Shows.{Caller}
-use Rattle.bay_core.specs.declared.calls.Layout.TheVariants.{Split}
 use Rattle.bay_core.specs.declared.calls.Op.{Op}
 use Rattle.bay_core.specs.declared.calls.Reply.{Reply}
 use Rattle.bay_core.specs.declared.calls.Reply.TheVariants as replies
 use Rattle.bay_core.specs.declared.calls.Entry.{Entry}
 use Rattle.bay_core.specs.declared.calls.Noted.{Noted}
-use Rattle.bay_core.specs.Noted.{after}
-use Rattle.bay_core.specs.History.{IsHistory, own, GoesOn}
+use Rattle.bay_rule.specs.declared.bay_use.BayUse.{BayUse}
 use Rattle.bay_rule.specs.declared.views.BayView.{BayView}
 use Rattle.bay_rule.specs.Leaving.{first_of}
 use Rattle.bay_store.specs.Calls.{Adds}
-use Rattle.room_history.specs.Told.{told}
 use Rattle.work_pool.specs.Shows.{Worker}
+use Rattle.work_pool.specs.Gaining.{KnowsQuiet, Gains}
 use Rattle.work_pool.specs.declared.takes.Taken.{Taken}
 use Rattle.work_pool.specs.declared.takes.Taken.TheVariants.{Item, Quiet, Spent}
 
@@ -42,57 +40,37 @@ quiet_since Quiet h since = first_of since (length h)
 quiet_since _ h since = since
 
 -- What the answer says by itself. An item is what the last try took: the receipt is of that call.
--- Quiet means that no list of the legal history has an item. Spent means that no draw is left.
-abbrev pub Says : ℕ → Op → Caller BayView → Taken → Type 0
-Says blocks op now (Item item r) =
-    IsTry op (replies.Item item) r.entry × (before : Caller BayView) × Adds blocks op 0 before now r
-Says blocks op now Quiet =
-    IsHistory Split blocks now.user.seen
-    × ((after now.user.seen).stack ≡ [])
-    × ((after now.user.seen).queue ≡ [])
-Says blocks op now Spent = now.draws ≡ now.limit
+-- Quiet means that the bay is so for good. Spent means that no draw is left.
+abbrev pub Says : BayUse → Op → Caller BayView → Taken → Type 0
+Says x op now (Item item r) =
+    IsTry op (replies.Item item) r.entry × (before : Caller BayView) × Adds x op 0 before now r
+Says x op now Quiet = KnowsQuiet x now
+Says x op now Spent = now.draws ≡ now.limit
 
 -- A take by this operation, by its caller before and now, the entries of its tries that found nothing
 -- in their order, and its answer. An item is taken by one try more.
-pub record Takes (blocks : ℕ) (op : Op) (before now : Caller BayView) (empties : List Entry)
+pub record Takes (x : BayUse) (op : Op) (before now : Caller BayView) (empties : List Entry)
     (answer : Taken) : Type 0 where
   pub empty : All (IsTry op replies.Empty) empties
-  pub says : Says blocks op now answer
-  -- the history that the caller has seen goes on from before, and the entries of these tries are
-  -- those that the caller's own calls gained in it
-  pub goes_on : GoesOn now.user.seen before.user.seen
-  pub mine : now.user.mine ≡ own before.who now.user.seen
-  pub entries : told before.who now.user.seen
-      ≡ told before.who before.user.seen ++ (empties ++ item_entry answer)
-  -- it is quiet exactly where the take made a load of `live`, and the last one gave 0
+  pub says : Says x op now answer
+  -- its own calls gained the entries of these tries
+  pub gains : Gains x before now (empties ++ item_entry answer)
+  -- it is quiet exactly where the take made a load of `live`, and the last one gave 0; one that gave
+  -- more is by a caller that had never found the bay quiet
   pub quiet : (answer ≡ Quiet) ↔ (before.user.loads < now.user.loads) × (now.user.live ≡ 0)
+  pub never : before.user.loads < now.user.loads → now.user.live ≢ 0 → before.user.quiet_at ≡ None
   -- what the last load before gave stands where the take made none
   pub still : length empties ≡ 0 → now.user.live ≡ before.user.live
-  -- it made a draw for each try, and a load of `live` without a share after each that found
-  -- nothing; it holds one share with an item and else none, and is as it was else
-  pub same : now ≡ record before {
-    draws = before.draws + length (empties ++ item_entry answer);
-    user = record before.user {
-      mine = now.user.mine;
-      seen = now.user.seen;
-      last = now.user.last;
-      frozen = now.user.frozen;
-      old = now.user.old;
-      held = held_with answer;
-      quiet_at = quiet_since answer now.user.seen before.user.quiet_at;
-      loads = before.user.loads + length empties;
-      bare_loads = before.user.bare_loads + length empties;
-      live = now.user.live;
-    };
-    seen = now.seen;
-    first = now.first;
-    loads = now.loads;
-    done = now.done;
-  }
+  -- it made a load of `live`, without a share, after each try that found nothing
+  pub loads : now.user.loads ≡ before.user.loads + length empties
+  pub bare_loads : now.user.bare_loads ≡ before.user.bare_loads + length empties
+  pub since : now.user.quiet_at ≡ quiet_since answer now.user.seen before.user.quiet_at
+  -- it holds one share with an item, and else none
+  pub held : now.user.held ≡ held_with answer
 
 -- A take by its worker: it asked the gate before each try, up to the last number that there is.
-pub record Works (blocks : ℕ) (op : Op) (before now : Worker) (answer : Taken) : Type 0 where
+pub record Works (x : BayUse) (op : Op) (before now : Worker) (answer : Taken) : Type 0 where
   pub empties : List Entry
-  pub takes : Takes blocks op before.caller now.caller empties answer
+  pub takes : Takes x op before.caller now.caller empties answer
   pub asked : now.asked ≡ min (before.asked + length empties + last_question answer) (2 ^ 64 - 1)
   pub same : now.worker ≡ before.worker

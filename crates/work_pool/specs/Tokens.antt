@@ -4,7 +4,7 @@ use Rattle.work_pool.specs.declared.pools.Pool.TheInside as pool
 use Rattle.work_pool.specs.declared.hands.Hand.TheInside as hand
 
 abbrev pub shared_of : pool.Inside → Shared
-shared_of p = record { site = p.bay.now.site; blocks = p.bay.now.usage.blocks; way = p.way }
+shared_of p = record { site = p.bay.now.site; usage = p.bay.now.usage; way = p.way }
 
 abbrev pub worker_of : hand.Inside → Worker
 worker_of h = record { caller = h.pass; worker = h.worker; asked = h.asked }

@@ -1,7 +1,8 @@
 -- What one try to take leaves of its caller.
-use Rattle.std.specs.Prelude.{◌≡◌, ◌≢◌, ℕ, ◌+◌, ◌-◌, ◌^◌, min}
+use Rattle.std.specs.Prelude.{◌≡◌, ◌≢◌, ℕ, ◌+◌, ◌-◌, ◌^◌, min, None}
 use Rattle.room_gate.specs.Shows.{Caller}
 use Rattle.bay_core.specs.declared.calls.Op.{Op}
+use Rattle.bay_rule.specs.declared.bay_use.BayUse.{BayUse}
 use Rattle.bay_rule.specs.declared.views.BayView.{BayView}
 use Rattle.bay_store.specs.Calls.{TakeGives}
 use Rattle.bay_store.specs.Sharing.{holding}
@@ -25,24 +26,25 @@ least_held _ = 0
 
 -- after the bay's call, by what it gave: the caller keeps one share with an item, and else none;
 -- where nothing was found it asked whether the bay is quiet
-abbrev pub Settles : ℕ → Popped → Caller BayView → Caller BayView → Tried → Type 0
-Settles blocks p before now (tried.Got item r) = (p ≡ popped.Item item r) × (now ≡ holding before 1)
-Settles blocks p before now tried.Nothing =
+abbrev pub Settles : BayUse → Popped → Caller BayView → Caller BayView → Tried → Type 0
+Settles x p before now (tried.Got item r) = (p ≡ popped.Item item r) × (now ≡ holding before 1)
+Settles x p before now tried.Nothing =
     (r : Receipt) × (p ≡ popped.Empty r)
     × (now ≡ hearing (holding before 0) now.user.live)
     × (now.user.live ≢ 0)
-Settles blocks p before now tried.Quiet =
+    × (before.user.quiet_at ≡ None)
+Settles x p before now tried.Quiet =
     (r : Receipt) × (p ≡ popped.Empty r)
     × (now ≡ hearing_quiet (holding before 0) now.user.seen)
-    × IsQuietFor blocks (holding before 0) now.user.seen
-Settles blocks p before now tried.Spent = (p ≡ popped.Spent) × (now ≡ holding before 0)
+    × IsQuietFor x (holding before 0) now.user.seen
+Settles x p before now tried.Spent = (p ≡ popped.Spent) × (now ≡ holding before 0)
 
 -- a whole try: the bay's call, and what follows it
-pub record Tries (blocks : ℕ) (op : Op) (before now : Caller BayView) (answer : Tried) : Type 0 where
+pub record Tries (x : BayUse) (op : Op) (before now : Caller BayView) (answer : Tried) : Type 0 where
   pub called : Caller BayView
   pub gave : Popped
-  pub call : TakeGives blocks op before called gave
-  pub settles : Settles blocks gave called now answer
+  pub call : TakeGives x op before called gave
+  pub settles : Settles x gave called now answer
 
 -- a worker after one question more
 abbrev pub questioned : Worker → Caller BayView → Worker

@@ -3,7 +3,7 @@
 /// What a drive answers.
 #[derive(Clone, Copy, Debug, PartialEq, Eq)]
 pub struct Drive {
-    /// How many of its offers the pool stored. After 2^64 - 1 the number stands there.
+    /// How many of its offers the pool stored.
     pub shared: u64,
     /// How many of its offers came back and were kept. After 2^64 - 1 the number stands there.
     pub kept: u64,

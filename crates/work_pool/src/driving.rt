@@ -31,7 +31,7 @@ pub fn drive<R: Wait, W: Work, G: Gate>(
     requires own { hand.caller.site ≡ pool.now.site }
     requires room { length (W.stands work.old).to_give ≤ (W.stands work.old).spare }
     requires share { (hand.caller.user.held ≡ 1) ⊎ ((hand.caller.user.held ≡ 0) × ((W.stands work.old).to_give ≡ []) × ((W.stands work.old).kept_items ≡ [])) }
-    ensures drives { Drives pool.now.way (W.leads work.old) hand result.0 (W.stands work.old) (W.stands work.new) result.1 }
+    ensures drives { Drives pool.now.usage pool.now.way (W.leads work.old) hand result.0 (W.stands work.old) (W.stands work.new) result.1 }
     ensures same_bay { result.0.caller.site ≡ hand.caller.site }
     ensures leads { (y : ℕ) (x : ℕ) → W.leads work.new y x ↔ W.leads work.old y x }
     ensures made { W.made work.new ≡ W.made work.old }

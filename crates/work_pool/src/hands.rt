@@ -1,6 +1,6 @@
 //! A caller of a pool.
 ghost use Rattle.std.specs.Prelude.{◌≡◌, ◌^◌, ◌<◌};
-ghost use Rattle.bay_core.specs.History.{own};
+ghost use Rattle.work_pool.specs.Shows.{IsHand};
 
 use bay_store::BayPass;
 use std::marker::Model;
@@ -45,11 +45,14 @@ impl Hand {
     }
 
     /// The caller's number in the bay: its own calls are those of this number in the history that it
-    /// has seen.
+    /// has seen. It has made no more draws than it may, at most 2^48.
     pub fn who(&self) -> u32
         ensures value { result ≡ self.now.caller.who }
-        ensures mine { self.now.caller.user.mine ≡ own self.now.caller.who self.now.caller.user.seen }
+        ensures holds { IsHand self.now }
     {
+        let _draws = self.pass.draws();
+        let _limit = self.pass.limit();
+        let _asked = self.asked;
         self.pass.who()
     }
 

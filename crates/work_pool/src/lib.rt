@@ -3,6 +3,7 @@
 //! it offers what the work gives, and has it handle what is kept or taken.
 #![tactic(auto)]
 
+mod crews;
 mod deeds;
 mod drives;
 mod driving;
@@ -16,6 +17,7 @@ mod takes;
 mod tries;
 mod works;
 
+pub use crews::Crew;
 pub use deeds::Deed;
 pub use drives::Drive;
 pub use driving::drive;

@@ -22,8 +22,8 @@ pub(crate) fn offer_all<R: Wait, W: Work>(
     requires own { hand.caller.site ≡ pool.now.site }
     requires share { (1 ≤ hand.caller.user.held) ⊎ ((W.stands work.old).to_give ≡ []) }
     requires room { length (W.stands work.old).to_give ≤ (W.stands work.old).spare }
-    requires small { (drive.shared < 2 ^ 64) × (drive.kept < 2 ^ 64) }
-    ensures offers { OffersAll pool.now.way (W.leads work.old) hand result.0 (W.stands work.old) (W.stands work.new) drive result.1 }
+    requires small { (drive.shared ≤ hand.caller.draws) × (drive.kept < 2 ^ 64) }
+    ensures offers { OffersAll pool.now.usage pool.now.way (W.leads work.old) hand result.0 (W.stands work.old) (W.stands work.new) drive result.1 }
     ensures same_bay { result.0.caller.site ≡ hand.caller.site }
     ensures leads { (y : ℕ) (x : ℕ) → W.leads work.new y x ↔ W.leads work.old y x }
     ensures made { W.made work.new ≡ W.made work.old }
@@ -53,8 +53,8 @@ fn offer_next<R: Wait, W: Work>(
     requires own { hand.caller.site ≡ pool.now.site }
     requires share { (1 ≤ hand.caller.user.held) ⊎ ((W.stands work.old).to_give ≡ []) }
     requires room { length (W.stands work.old).to_give ≤ (W.stands work.old).spare }
-    requires small { (drive.shared < 2 ^ 64) × (drive.kept < 2 ^ 64) }
-    ensures offers { OffersNext pool.now.way (W.leads work.old) hand result.0 (W.stands work.old) (W.stands work.new) drive result.1 }
+    requires small { (drive.shared ≤ hand.caller.draws) × (drive.kept < 2 ^ 64) }
+    ensures offers { OffersNext pool.now.usage pool.now.way (W.leads work.old) hand result.0 (W.stands work.old) (W.stands work.new) drive result.1 }
     ensures same_bay { result.0.caller.site ≡ hand.caller.site }
     ensures leads { (y : ℕ) (x : ℕ) → W.leads work.new y x ↔ W.leads work.old y x }
     ensures made { W.made work.new ≡ W.made work.old }
@@ -72,13 +72,14 @@ fn offer_next<R: Wait, W: Work>(
 // Counts an offer on, and keeps its item if it came back.
 fn count_offer<W: Work>(work: &mut W, put: Put, drive: Drive) -> Drive
     requires room { 1 ≤ (W.stands work.old).spare }
+    requires few { drive.shared ≤ 2 ^ 48 }
     ensures puts { PutsBy put (W.stands work.old) (W.stands work.new) drive result }
     ensures leads { (y : ℕ) (x : ℕ) → W.leads work.new y x ↔ W.leads work.old y x }
     ensures made { W.made work.new ≡ W.made work.old }
 {
     match put {
         Put::Shared(_) => Drive {
-            shared: drive.shared.saturating_add(1),
+            shared: drive.shared + 1,
             ..drive
         },
         Put::Full(item) | Put::Spent(item) => {

@@ -33,7 +33,7 @@ impl<'a> Model for Pool<'a> {
 impl<'a> Pool<'a> {
     /// The pool of this bay's list. It changes nothing, waits for nobody and takes no memory.
     pub fn over(bay: &'a Bay, way: Way) -> Pool<'a>
-        ensures { result ≡ record { site = bay.now.site; blocks = bay.now.usage.blocks; way = way } }
+        ensures { result ≡ record { site = bay.now.site; usage = bay.now.usage; way = way } }
     {
         Pool { bay, way }
     }

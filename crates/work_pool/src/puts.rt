@@ -23,16 +23,18 @@ pub enum Put {
 impl<'a> Pool<'a> {
     /// Puts the item in by one push on the stack or one enqueue, with a hand of this bay that holds
     /// a share. Shared comes with the receipt of that call, which stored the item; Full where the
-    /// call was answered so; Spent where the pass had made its last draw, and there was no call.
+    /// call was answered so; Spent where the call was, since the pass has no draw left.
     /// It waits for those that are let in before it to leave, and takes no memory.
     pub fn put<R: Wait>(&self, rt: &R, hand: Hand, item: u64) -> (Hand, Put)
         requires own { hand.caller.site ≡ self.now.site }
         requires share { 1 ≤ hand.caller.user.held }
-        ensures gives { Puts self.now.blocks (puts self.now.way) item hand.caller result.0.caller result.1 }
+        ensures gives { Puts self.now.usage (puts self.now.way) item hand.caller result.0.caller result.1 }
         ensures same { result.0 ≡ record hand { caller = result.0.caller } }
         ensures same_bay { result.0.caller.site ≡ hand.caller.site }
         ensures held { result.0.caller.user.held ≡ hand.caller.user.held }
     {
+        // What it has seen of its own calls before.
+        let _who = hand.who();
         let Hand {
             pass,
             worker,
@@ -51,7 +53,7 @@ impl<'a> Pool<'a> {
     fn call_in<R: Wait>(&self, rt: &R, pass: BayPass, item: u64) -> (BayPass, Pushed)
         requires own { pass.site ≡ self.now.site }
         requires share { 1 ≤ pass.user.held }
-        ensures gives { PutGives self.now.blocks (puts self.now.way) item pass result.0 result.1 }
+        ensures gives { PutGives self.now.usage (puts self.now.way) item pass result.0 result.1 }
         ensures same_bay { result.0.site ≡ pass.site }
         ensures held { result.0.user.held ≡ pass.user.held }
     {

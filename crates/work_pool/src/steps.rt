@@ -36,7 +36,7 @@ pub(crate) fn next_step<R: Wait, W: Work, G: Gate>(
     requires own { hand.caller.site ≡ pool.now.site }
     requires none { (W.stands work.old).to_give ≡ [] }
     requires share { (hand.caller.user.held ≡ 1) ⊎ ((hand.caller.user.held ≡ 0) × ((W.stands work.old).kept_items ≡ [])) }
-    ensures steps { Steps pool.now.way (W.leads work.old) hand result.0 (W.stands work.old) (W.stands work.new) result.1 }
+    ensures steps { Steps pool.now.usage pool.now.way (W.leads work.old) hand result.0 (W.stands work.old) (W.stands work.new) result.1 }
     ensures same_bay { result.0.caller.site ≡ hand.caller.site }
     ensures leads { (y : ℕ) (x : ℕ) → W.leads work.new y x ↔ W.leads work.old y x }
     ensures made { W.made work.new ≡ W.made work.old }
@@ -60,11 +60,12 @@ fn take_one<R: Wait, W: Work, G: Gate>(
     requires few { hand.caller.user.held ≤ 1 }
     requires none { (W.stands work.old).to_give ≡ [] }
     requires none_kept { (W.stands work.old).kept_items ≡ [] }
-    ensures steps { Steps pool.now.way (W.leads work.old) hand result.0 (W.stands work.old) (W.stands work.new) result.1 }
+    ensures steps { Steps pool.now.usage pool.now.way (W.leads work.old) hand result.0 (W.stands work.old) (W.stands work.new) result.1 }
     ensures same_bay { result.0.caller.site ≡ hand.caller.site }
     ensures leads { (y : ℕ) (x : ℕ) → W.leads work.new y x ↔ W.leads work.old y x }
     ensures made { W.made work.new ≡ W.made work.old }
 {
+    let _who = hand.who();
     let (hand, taken) = pool.take(rt, hand, gate);
     match taken {
         Taken::Item(item, _) => handle_one(pool, hand, work, item),

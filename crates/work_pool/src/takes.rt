@@ -32,7 +32,7 @@ impl<'a> Pool<'a> {
     pub fn take<R: Wait, G: Gate>(&self, rt: &R, hand: Hand, gate: &G) -> (Hand, Taken)
         requires own { hand.caller.site ≡ self.now.site }
         requires few { hand.caller.user.held ≤ 1 }
-        ensures works { Works self.now.blocks (takes self.now.way) hand result.0 result.1 }
+        ensures works { Works self.now.usage (takes self.now.way) hand result.0 result.1 }
         ensures same_bay { result.0.caller.site ≡ hand.caller.site }
         ensures few { result.0.caller.user.held ≤ 1 }
     {

@@ -30,7 +30,7 @@ impl<'a> Pool<'a> {
     pub(crate) fn try_once<R: Wait, G: Gate>(&self, rt: &R, hand: Hand, gate: &G) -> (Hand, Tried)
         requires own { hand.caller.site ≡ self.now.site }
         requires few { hand.caller.user.held ≤ 1 }
-        ensures tries { Tries self.now.blocks (takes self.now.way) hand.caller result.0.caller result.1 }
+        ensures tries { Tries self.now.usage (takes self.now.way) hand.caller result.0.caller result.1 }
         ensures same { result.0 ≡ questioned hand result.0.caller }
         ensures same_bay { result.0.caller.site ≡ hand.caller.site }
         ensures few { result.0.caller.user.held ≤ 1 }
@@ -54,7 +54,7 @@ impl<'a> Pool<'a> {
     // Makes the bay's call that takes an item out.
     fn call_out<R: Wait>(&self, rt: &R, pass: BayPass) -> (BayPass, Popped)
         requires own { pass.site ≡ self.now.site }
-        ensures gives { TakeGives self.now.blocks (takes self.now.way) pass result.0 result.1 }
+        ensures gives { TakeGives self.now.usage (takes self.now.way) pass result.0 result.1 }
         ensures same_bay { result.0.site ≡ pass.site }
         ensures held { result.0.user.held ≡ held_taken result.1 pass.user.held }
     {
@@ -69,7 +69,7 @@ impl<'a> Pool<'a> {
         requires own { pass.site ≡ self.now.site }
         requires some { least_held popped ≤ pass.user.held }
         requires few { pass.user.held ≤ most_held popped }
-        ensures settles { Settles self.now.blocks popped pass result.0 result.1 }
+        ensures settles { Settles self.now.usage popped pass result.0 result.1 }
         ensures same_bay { result.0.site ≡ pass.site }
         ensures few { result.0.user.held ≤ 1 }
     {

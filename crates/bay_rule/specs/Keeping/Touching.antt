@@ -71,7 +71,7 @@ live_touched blocks g h words views c v w k below out fits mine seen last stage 
       places = λ i l. placed_noted blocks words views s s i i c 3 v w below free (omega arith) refl refl (k.places i l);
     })
 
-since_all : (h : List Noted) → EmptySince (length h) h
+pub since_all : (h : List Noted) → EmptySince (length h) h
 since_all [] = refl
 since_all (n ∷ h) = inl refl
 

@@ -3,19 +3,22 @@ ghost use Rattle.std.specs.Prelude.{◌≡◌, ◌≤◌, ◌^◌};
 
 use super::halving::Twice;
 use super::pools::hand_of;
-use crate::{Drive, OpenGate, Pool, Way, drive};
+use crate::{Drive, Gate, OpenGate, Pool, Way, drive};
 use bay_core::Layout;
 use bay_store::{Bay, BayPass, Closed};
 use std::alloc::{AllocError, Global};
+use std::cell::Cell;
 use std::process::Abort;
 use std::sync::Wait;
 
-// What a drive left: how many items were handled, the shares of the pass, and the closed bay.
+// What a drive left: how many items were handled, the shares of the pass, how many questions it asked,
+// and the closed bay.
 #[derive(Drop)]
 struct Left {
     driven: Result<Drive, AllocError>,
     handled: usize,
     held: u64,
+    asked: u64,
     closed: Closed,
 }
 
@@ -33,11 +36,12 @@ fn close_one(alloc: Global, bay: Bay, pass: BayPass) -> Result<Closed, AllocErro
 }
 
 // Drives work that gives 3 first, with so many draws, through the stack.
-fn drive_alone<R: Wait + Abort>(
+fn drive_alone<R: Wait + Abort, G: Gate>(
     rt: &R,
     alloc: Global,
     draws: u64,
     lacks: bool,
+    gate: &G,
 ) -> Result<Left, AllocError>
     requires { draws ≤ 2 ^ 48 }
 {
@@ -45,14 +49,16 @@ fn drive_alone<R: Wait + Abort>(
     let hand = hand_of(&bay, &mut passes).expect(rt, "a hand");
     let mut work = Twice::new(alloc, 3, lacks)?;
     let pool = Pool::over(&bay, Way::Stack);
-    let (hand, driven) = drive(rt, &pool, hand, &OpenGate, &mut work);
+    let (hand, driven) = drive(rt, &pool, hand, gate, &mut work);
     let held = hand.held();
+    let asked = hand.asked();
     let handled = work.done();
     let closed = close_one(alloc, bay, hand.pass())?;
     Ok(Left {
         driven,
         handled,
         held,
+        asked,
         closed,
     })
 }
@@ -68,7 +74,7 @@ fn driven_so(shared: u64, kept: u64, quiet: bool) -> Result<Drive, AllocError> {
 
 #[test]
 fn a_drive_ends_where_the_bay_is_quiet(rt: HostRuntime) -> Result<(), AllocError> {
-    let left = drive_alone(&rt, rt.alloc(), 1000, false)?;
+    let left = drive_alone(&rt, rt.alloc(), 1000, false, &OpenGate)?;
     assert_eq!(rt; left.driven, driven_so(15, 0, true));
     assert_eq!(rt; (left.handled, left.held), (15, 0));
     assert_eq!(rt; (left.closed.stack.len(), left.closed.live), (0, 0));
@@ -77,7 +83,7 @@ fn a_drive_ends_where_the_bay_is_quiet(rt: HostRuntime) -> Result<(), AllocError
 
 #[test]
 fn a_spent_drive_leaves_its_items_in_the_pool(rt: HostRuntime) -> Result<(), AllocError> {
-    let left = drive_alone(&rt, rt.alloc(), 4, false)?;
+    let left = drive_alone(&rt, rt.alloc(), 4, false, &OpenGate)?;
     assert_eq!(rt; left.driven, driven_so(3, 0, false));
     assert_eq!(rt; (left.handled, left.held), (1, 0));
     assert_eq!(rt; left.closed.stack.as_slice(), [2, 2].as_slice());
@@ -87,7 +93,7 @@ fn a_spent_drive_leaves_its_items_in_the_pool(rt: HostRuntime) -> Result<(), All
 
 #[test]
 fn what_comes_back_is_kept_and_handled(rt: HostRuntime) -> Result<(), AllocError> {
-    let left = drive_alone(&rt, rt.alloc(), 3, false)?;
+    let left = drive_alone(&rt, rt.alloc(), 3, false, &OpenGate)?;
     assert_eq!(rt; left.driven, driven_so(2, 7, false));
     assert_eq!(rt; (left.handled, left.held), (8, 0));
     assert_eq!(rt; left.closed.stack.as_slice(), [2].as_slice());
@@ -97,9 +103,39 @@ fn what_comes_back_is_kept_and_handled(rt: HostRuntime) -> Result<(), AllocError
 
 #[test]
 fn want_of_memory_ends_a_drive(rt: HostRuntime) -> Result<(), AllocError> {
-    let left = drive_alone(&rt, rt.alloc(), 1000, true)?;
+    let left = drive_alone(&rt, rt.alloc(), 1000, true, &OpenGate)?;
     assert_eq!(rt; left.driven, Err(AllocError));
     assert_eq!(rt; (left.handled, left.held), (0, 0));
     assert_eq!(rt; (left.closed.stack.len(), left.closed.live), (0, 0));
+    Ok(())
+}
+
+// A gate that follows its questions: the number of the next one, and how many had another number.
+#[derive(Drop)]
+struct Follows {
+    next: Cell<u64>,
+    others: Cell<u64>,
+}
+
+impl Gate for Follows {
+    fn ask(&self, worker: u32, take: u64) {
+        if worker != 0 || take != self.next.get() {
+            self.others.set(self.others.get().wrapping_add(1));
+        }
+        self.next.set(self.next.get().wrapping_add(1));
+    }
+}
+
+#[test]
+fn a_drive_asks_with_one_number_after_another(rt: HostRuntime) -> Result<(), AllocError> {
+    for (draws, questions) in [(1000, 16), (4, 2), (3, 2)] {
+        let gate = Follows {
+            next: Cell::new(0),
+            others: Cell::new(0),
+        };
+        let left = drive_alone(&rt, rt.alloc(), draws, false, &gate)?;
+        assert_eq!(rt; (left.asked, gate.next.get()), (questions, questions));
+        assert_eq!(rt; gate.others.get(), 0);
+    }
     Ok(())
 }

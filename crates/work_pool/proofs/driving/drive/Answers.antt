@@ -1,11 +1,10 @@
 use Rattle.std.proofs.Common.{inl, refl, ◌∙◌}
-use Rattle.work_pool.proofs.Offering.{small_then}
-use Rattle.work_pool.proofs.WholeDrives.{no_step, no_offers, share_to_offer, share_to_step, step_more, wanting_drives, quiet_drives, spent_drives}
+use Rattle.work_pool.proofs.WholeDrives.{no_step, small_so_far, no_offers, share_to_offer, share_to_step, step_more, wanting_drives, quiet_drives, spent_drives}
 use Rattle.work_pool.proofs.driving.drive.Goals as goal
 
 pub loop-init : goal.loop-init
 loop-init g c = record {
-  so_far = no_step c.args.pool.now.way (g.W.Work.leads c.args.work.now) c.args.hand (g.W.Work.stands c.args.work.now) c.who-who.ensures.mine c.requires.room;
+  so_far = no_step c.args.pool.now.usage c.args.pool.now.way (g.W.Work.leads c.args.work.now) c.args.hand (g.W.Work.stands c.args.work.now) c.who-who.ensures.holds c.requires.room;
   own = c.requires.own;
   share = c.requires.share;
   leads = λ y x. (λ l. l, λ l. l);
@@ -24,11 +23,12 @@ offer_all-offering-requires-clause-room g c = c.loop.invariant.so_far.goes.stock
 
 pub offer_all-offering-requires-clause-small : goal.offer_all-offering-requires-clause-small
 offer_all-offering-requires-clause-small g c =
-    let s = c.loop.invariant.so_far in small_then no_offers c.loop.drive s.run s.tallies
+    small_so_far c.args.pool.now.usage c.args.pool.now.way (g.W.Work.leads c.args.work.now) c.args.hand c.loop.hand (g.W.Work.stands c.args.work.now) (g.W.Work.stands c.loop.work)
+    c.loop.drive c.loop.invariant.so_far
 
 pub next_step-after-requires-clause-share : goal.next_step-after-requires-clause-share
 next_step-after-requires-clause-share g c =
-    share_to_step c.args.pool.now.way (g.W.Work.leads c.loop.work) c.loop.hand c.offer_all-offering.result.0 (g.W.Work.stands c.loop.work) (g.W.Work.stands c.offer_all-offering.new.work) c.loop.drive c.offer_all-offering.result.1
+    share_to_step c.args.pool.now.usage c.args.pool.now.way (g.W.Work.leads c.loop.work) c.loop.hand c.offer_all-offering.result.0 (g.W.Work.stands c.loop.work) (g.W.Work.stands c.offer_all-offering.new.work) c.loop.drive c.offer_all-offering.result.1
     c.offer_all-offering.ensures.offers c.loop.invariant.share
 
 pub loop-preserved : goal.loop-preserved
@@ -36,7 +36,7 @@ loop-preserved g c =
     let h = c.loop.invariant in let o = c.offer_all-offering.ensures in let n = c.next_step-after.ensures in
     let steps = rw c.in-Handled.is at n.steps in
     record {
-      so_far = step_more c.args.pool.now.way (g.W.Work.leads c.args.work.now) (g.W.Work.leads c.loop.work) (g.W.Work.leads c.offer_all-offering.new.work)
+      so_far = step_more c.args.pool.now.usage c.args.pool.now.way (g.W.Work.leads c.args.work.now) (g.W.Work.leads c.loop.work) (g.W.Work.leads c.offer_all-offering.new.work)
           (λ y x. (h.leads y x).0) (λ y x l. (h.leads y x).0 ((o.leads y x).0 l))
           c.args.hand c.loop.hand c.offer_all-offering.result.0 c.next_step-after.result.0
           (g.W.Work.stands c.args.work.now) (g.W.Work.stands c.loop.work) (g.W.Work.stands c.offer_all-offering.new.work) (g.W.Work.stands c.next_step-after.new.work)
@@ -51,7 +51,7 @@ pub returns-in-Wanting-clause-drives : goal.returns-in-Wanting-clause-drives
 returns-in-Wanting-clause-drives g c =
     let h = c.loop.invariant in let o = c.offer_all-offering.ensures in let n = c.next_step-after.ensures in
     let steps = rw c.in-Wanting.is at n.steps in
-    wanting_drives c.args.pool.now.way (g.W.Work.leads c.args.work.now) (g.W.Work.leads c.loop.work) (g.W.Work.leads c.offer_all-offering.new.work)
+    wanting_drives c.args.pool.now.usage c.args.pool.now.way (g.W.Work.leads c.args.work.now) (g.W.Work.leads c.loop.work) (g.W.Work.leads c.offer_all-offering.new.work)
     (λ y x. (h.leads y x).0) (λ y x l. (h.leads y x).0 ((o.leads y x).0 l))
     c.args.hand c.loop.hand c.offer_all-offering.result.0 c.next_step-after.result.0
     (g.W.Work.stands c.args.work.now) (g.W.Work.stands c.loop.work) (g.W.Work.stands c.offer_all-offering.new.work) (g.W.Work.stands c.next_step-after.new.work)
@@ -61,7 +61,7 @@ pub returns-in-Quiet-clause-drives : goal.returns-in-Quiet-clause-drives
 returns-in-Quiet-clause-drives g c =
     let h = c.loop.invariant in let o = c.offer_all-offering.ensures in let n = c.next_step-after.ensures in
     let steps = rw c.in-Quiet.is at n.steps in
-    quiet_drives c.args.pool.now.way (g.W.Work.leads c.args.work.now) (g.W.Work.leads c.loop.work) (g.W.Work.leads c.offer_all-offering.new.work)
+    quiet_drives c.args.pool.now.usage c.args.pool.now.way (g.W.Work.leads c.args.work.now) (g.W.Work.leads c.loop.work) (g.W.Work.leads c.offer_all-offering.new.work)
     (λ y x. (h.leads y x).0) (λ y x l. (h.leads y x).0 ((o.leads y x).0 l))
     c.args.hand c.loop.hand c.offer_all-offering.result.0 c.next_step-after.result.0
     (g.W.Work.stands c.args.work.now) (g.W.Work.stands c.loop.work) (g.W.Work.stands c.offer_all-offering.new.work) (g.W.Work.stands c.next_step-after.new.work)
@@ -71,7 +71,7 @@ pub returns-in-Spent-clause-drives : goal.returns-in-Spent-clause-drives
 returns-in-Spent-clause-drives g c =
     let h = c.loop.invariant in let o = c.offer_all-offering.ensures in let n = c.next_step-after.ensures in
     let steps = rw c.in-Spent.is at n.steps in
-    spent_drives c.args.pool.now.way (g.W.Work.leads c.args.work.now) (g.W.Work.leads c.loop.work) (g.W.Work.leads c.offer_all-offering.new.work)
+    spent_drives c.args.pool.now.usage c.args.pool.now.way (g.W.Work.leads c.args.work.now) (g.W.Work.leads c.loop.work) (g.W.Work.leads c.offer_all-offering.new.work)
     (λ y x. (h.leads y x).0) (λ y x l. (h.leads y x).0 ((o.leads y x).0 l))
     c.args.hand c.loop.hand c.offer_all-offering.result.0 c.next_step-after.result.0
     (g.W.Work.stands c.args.work.now) (g.W.Work.stands c.loop.work) (g.W.Work.stands c.offer_all-offering.new.work) (g.W.Work.stands c.next_step-after.new.work)

@@ -4,7 +4,7 @@ use Rattle.work_pool.proofs.offers.offer_all.Given as goal
 
 abbrev pub invariant-loop-then : goal.invariant-loop-then
 invariant-loop-then g l = record {
-  so_far : OffersSoFar l.pool.way (g.W.Work.leads l.initial.work) l.fn.hand l.hand (g.W.Work.stands l.initial.work) (g.W.Work.stands l.work) l.fn.drive l.drive;
+  so_far : OffersSoFar l.pool.usage l.pool.way (g.W.Work.leads l.initial.work) l.fn.hand l.hand (g.W.Work.stands l.initial.work) (g.W.Work.stands l.work) l.fn.drive l.drive;
   own : l.hand.caller.site ≡ l.pool.site;
   share : (1 ≤ l.hand.caller.user.held) ⊎ ((g.W.Work.stands l.work).to_give ≡ []);
   leads : (y : ℕ) (x : ℕ) → g.W.Work.leads l.work y x ↔ g.W.Work.leads l.initial.work y x;

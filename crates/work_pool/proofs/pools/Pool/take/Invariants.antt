@@ -5,6 +5,6 @@ use Rattle.work_pool.proofs.pools.Pool.take.Given as goal
 
 abbrev pub invariant-loop : goal.invariant-loop
 invariant-loop g l = record {
-  so_far : WorksSoFar (takes l.self.way) l.fn.hand l.hand;
+  so_far : WorksSoFar l.self.usage (takes l.self.way) l.fn.hand l.hand;
   own : l.hand.caller.site ≡ l.self.site;
 }
