@@ -31,6 +31,6 @@ abbrev pub IsLive : Heap → ℕ → Type 0
 IsLive heap object = (first : ℕ) × (path : List ℕ) × IsRoot heap first × Leads heap first path object
 
 -- a value for each object: whether it is live
-pub record Marks (heap : Heap) (live : List Bool) : Type 0 where
+pub record MarksLive (heap : Heap) (live : List Bool) : Type 0 where
   pub each : length live ≡ length heap.heads
   pub exact : (object : ℕ) → IsObject heap object → IsTrue (slice_index_or live object false) ↔ IsLive heap object

@@ -1,7 +1,7 @@
 ghost use Rattle.std.specs.Prelude.{◌≡◌, ◌<◌, ◌≤◌, ◌^◌, ◌++◌, length, map, slice_index, All, OnOk, IfOk};
 ghost use Rattle.std.specs.List.{flat_map};
 ghost use Rattle.image_core.specs.Object.{Fits, references_at};
-ghost use Rattle.image_core.specs.Live.{Marks};
+ghost use Rattle.image_core.specs.Live.{MarksLive};
 ghost use Rattle.image_slide.specs.Slide.{slide, kept};
 
 use image_core::{Image, data, references, size};
@@ -21,7 +21,7 @@ ghost use Rattle.image_slide.specs.Table.{InOrder, AreNewPlaces, AreNames, new_n
 /// The image with its live objects alone, in order and without gaps. `live` has a value for each
 /// object, as `mark_one` gives them.
 pub fn slide_one(alloc: Global, image: &Image, live: &[bool]) -> Result<Image, AllocError>
-    requires { Marks image.now live.now }
+    requires { MarksLive image.now live.now }
     ensures { IfOk result (λ slid. slid ≡ slide image.now live.now) }
 {
     let words = image.words();

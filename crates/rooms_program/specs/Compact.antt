@@ -1,7 +1,7 @@
 -- What `compact` writes for an image.
 use Rattle.std.specs.Prelude.{ℕ, List, Bool}
 use Rattle.image_core.specs.Heap.{Heap}
-use Rattle.image_core.specs.Live.{Marks}
+use Rattle.image_core.specs.Live.{MarksLive}
 use Rattle.image_slide.specs.Slide.{slide}
 use Rattle.image_reader.specs.Bytes.{IsImage}
 
@@ -10,5 +10,5 @@ pub record IsCompacted (input output : List ℕ) : Type 0 where
   pub heap : Heap
   pub image : IsImage input heap
   pub live : List Bool
-  pub marks : Marks heap live
+  pub marks : MarksLive heap live
   pub slid : IsImage output (slide heap live)
