@@ -245,8 +245,7 @@ module _ {S : Type 0} (k : Plan) where
               let low = part_le (λ (z : Known). times c z.won) s.views id me.0 at in
               let all = r.won c in
               let none : bit_of s.words c ≡ 0 =
-              ap (λ (i : ℕ). bit_at (get_or s.words i 0) (c % 64)) (sym its_word) ∙ clear in
-              (
+              ap (λ (i : ℕ). bit_at (get_or s.words i 0) (c % 64)) (sym its_word) ∙ clear in (
                 omega (arith, low, all, none),
                 elim (cases_eq (times c me.0.found) 0) [
                   | inl absent ↦ absent
