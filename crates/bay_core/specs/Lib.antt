@@ -5,3 +5,5 @@ pub mod Replay
 pub mod Noted
 pub mod Legal
 pub mod History
+pub mod Times
+pub mod Ledger
