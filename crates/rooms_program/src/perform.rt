@@ -3,6 +3,7 @@ ghost use Rattle.std.specs.Prelude.{◌≡◌, ◌≢◌, ◌⊎◌, ◌+◌, �
 ghost use Rattle.std.specs.Io.KnownBytes.{Appends};
 ghost use Rattle.room_io.specs.Causes.{Rose, AppendsPrefix};
 ghost use Rattle.rooms_program.specs.Commands.{most_bytes, Accepts, IsOutput, Refuses};
+ghost use Rattle.rooms_program.specs.Words.{HasCrew};
 ghost use Rattle.rooms_program.specs.Runs.{WasRead, WroteAll, WrotePart, WasRefused, IsAnswered, IsRefusal};
 
 use crate::compact::compacted;
@@ -21,7 +22,7 @@ fn most(command: Command) -> usize
     ensures small { result ≤ 34078744 }
 {
     match command {
-        Command::Compact => 34_078_744,
+        Command::Compact(_) => 34_078_744,
         Command::Schedule | Command::Trial => MOST_TEXT,
     }
 }
@@ -34,13 +35,14 @@ fn output<R: Threads + Wait + Sync, G: Gate + Sync>(
     bytes: Vec<u8>,
     gate: &G,
 ) -> Result<Vec<u8>, Status>
+    requires { HasCrew command }
     ensures output { IfOk result (λ output. IsOutput command bytes.items output.items) }
     ensures why { IfErr result (λ why. (why ≡ Status.Memory) ⊎ (IsRefusal why × Refuses command bytes.items why)) }
     ensures accepts { Accepts command bytes.items → IfErr result (λ why. why ≡ Status.Memory) }
     ensures refuses { (why : Status) → Refuses command bytes.items why → (result ≡ Err why) ⊎ (result ≡ Err Status.Memory) }
 {
     match command {
-        Command::Compact => compacted(alloc, bytes),
+        Command::Compact(crew) => compacted(rt, alloc, &crew, bytes, gate),
         Command::Schedule => scheduled(alloc, &bytes),
         Command::Trial => tried(rt, alloc, &bytes, gate),
     }
@@ -84,7 +86,8 @@ fn write_made<K: Sink>(sink: &mut K, made: Result<Vec<u8>, Status>) -> Status
     }
 }
 
-/// Reads the input of a command and writes an output of it. It waits for a trial's callers alone.
+/// Reads the input of a command and writes an output of it. It waits for the workers
+/// of `compact` and the callers of a trial alone.
 pub fn perform<R: Threads + Wait + Sync, S: Source, K: Sink, G: Gate + Sync>(
     rt: &R,
     alloc: Global,
@@ -93,6 +96,7 @@ pub fn perform<R: Threads + Wait + Sync, S: Source, K: Sink, G: Gate + Sync>(
     sink: &mut K,
     gate: &G,
 ) -> Status
+    requires { HasCrew command }
     ensures good { result ≡ Status.Good → WroteAll command (S.left source.old) (S.left source.new) (K.written sink.old) (K.written sink.new) }
     ensures refused { IsRefusal result → WasRefused command (S.left source.old) (S.left source.new) result }
     ensures read { result ≡ Status.ReadFault → Rose (S.faults source.old) (S.faults source.new) }

@@ -1,7 +1,7 @@
 //! The top call.
 ghost use Rattle.std.specs.Prelude.{◌≡◌, ◌≢◌, ◌↔◌, map, string_bytes, IfSome};
 ghost use Rattle.room_io.specs.Causes.{Rose};
-ghost use Rattle.rooms_program.specs.Commands.{Names};
+ghost use Rattle.rooms_program.specs.Words.{Names};
 ghost use Rattle.rooms_program.specs.Runs.{WroteAll, WrotePart, WasRefused, IsAnswered, IsRefusal, IsNoted};
 ghost use Rattle.rooms_program.specs.Statuses.{note_of};
 
@@ -16,10 +16,14 @@ use std::thread::Threads;
 use work_pool::Gate;
 
 /// Performs the command that the words name, from the source to the sink, and leaves a note of one
-/// line for a status other than `Good`. It waits for a trial's callers alone.
+/// line for a status other than `Good`. It waits for the workers of `compact` and the callers of a
+/// trial alone.
 ///
 /// `compact` reads an image and writes its slide: the live objects alone, in order, moved down
-/// without gaps. `schedule` reads a text of acts and prints the run of the protocol on them.
+/// without gaps. A crew does it, of 1 worker over 64 blocks or of as many as `--workers N` and
+/// `--blocks B` after it say, in this order; what is written is the same for each crew. Before each
+/// try to take an object the gate is asked with the worker's number, and how often that worker had
+/// asked. `schedule` reads a text of acts and prints the run of the protocol on them.
 /// `trial` reads a text of callers' scripts, has each caller make the calls of its script on one
 /// bay, in a thread of its own where one can be made, and prints their one history, how many lines
 /// each caller had answered, and what is left in the bay. Before line i of caller c the gate is
@@ -68,6 +72,7 @@ pub fn run<R: Threads + Wait + Sync, S: Source, K: Sink, N: Sink, G: Gate + Sync
 }
 
 /// Performs the command that the words name, if they name one.
+#[tactic(auto, using(crate::proofs::Naming::named_crew))]
 fn answer<R: Threads + Wait + Sync, S: Source, K: Sink, G: Gate + Sync>(
     rt: &R,
     alloc: Global,
