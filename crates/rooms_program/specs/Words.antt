@@ -44,6 +44,10 @@ abbrev pub HasCrew : Command → Type 0
 HasCrew (Compact crew) = IsCrew crew
 HasCrew _ = Unit {0}
 
+-- the command is this one
+abbrev pub Is : Command → Command → Type 0
+Is this command = command ≡ this
+
 -- the words name the command
 abbrev pub Names : List (List ℕ) → Command → Type 0
 Names [] command = ⊥

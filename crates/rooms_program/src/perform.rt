@@ -1,10 +1,10 @@
 //! Performing a command: the input is read, its output made whole in memory, and then written.
-ghost use Rattle.std.specs.Prelude.{◌≡◌, ◌≢◌, ◌⊎◌, ◌+◌, ◌≤◌, take, Err, IfOk, IfErr, IfSome};
+ghost use Rattle.std.specs.Prelude.{◌≡◌, ◌⊎◌, ◌+◌, ◌≤◌, take, Err, IfOk, IfErr, IfSome};
 ghost use Rattle.std.specs.Io.KnownBytes.{Appends};
 ghost use Rattle.room_io.specs.Causes.{Rose, AppendsPrefix};
 ghost use Rattle.rooms_program.specs.Commands.{most_bytes, Accepts, IsOutput, Refuses};
-ghost use Rattle.rooms_program.specs.Words.{HasCrew};
-ghost use Rattle.rooms_program.specs.Runs.{WasRead, WroteAll, WrotePart, WasRefused, IsAnswered, IsRefusal};
+ghost use Rattle.rooms_program.specs.Words.{HasCrew, Is};
+ghost use Rattle.rooms_program.specs.Runs.{WasRead, IsRefusal, Leaves};
 
 use crate::compact::compacted;
 use crate::schedule::{MOST_TEXT, scheduled};
@@ -97,15 +97,7 @@ pub fn perform<R: Threads + Wait + Sync, S: Source, K: Sink, G: Gate + Sync>(
     gate: &G,
 ) -> Status
     requires { HasCrew command }
-    ensures good { result ≡ Status.Good → WroteAll command (S.left source.old) (S.left source.new) (K.written sink.old) (K.written sink.new) }
-    ensures refused { IsRefusal result → WasRefused command (S.left source.old) (S.left source.new) result }
-    ensures read { result ≡ Status.ReadFault → Rose (S.faults source.old) (S.faults source.new) }
-    ensures write { result ≡ Status.WriteFault → Rose (K.faults sink.old) (K.faults sink.new) }
-    ensures cut { result ≡ Status.WriteFault → WrotePart command (S.left source.old) (S.left source.new) (K.written sink.old) (K.written sink.new) }
-    ensures unwritten { result ≢ Status.Good → result ≢ Status.WriteFault → sink.new ≡ sink.old }
-    ensures words { result ≢ Status.Words }
-    ensures complete { IfSome (S.left source.old) (λ input.
-        ¬ Rose (S.faults source.old) (S.faults source.new) → ¬ Rose (K.faults sink.old) (K.faults sink.new) → IsAnswered command input result) }
+    ensures { Leaves S.left S.faults K.written K.faults (Is command) source.old source.new sink.old sink.new result }
 {
     let bytes = match read_input(alloc, command, source) {
         Ok(bytes) => bytes,
@@ -117,15 +109,7 @@ pub fn perform<R: Threads + Wait + Sync, S: Source, K: Sink, G: Gate + Sync>(
 
 /// Reads a schedule and writes the run of the protocol on its acts. It waits for nobody.
 pub fn perform_schedule<S: Source, K: Sink>(alloc: Global, source: &mut S, sink: &mut K) -> Status
-    ensures good { result ≡ Status.Good → WroteAll Command.Schedule (S.left source.old) (S.left source.new) (K.written sink.old) (K.written sink.new) }
-    ensures refused { IsRefusal result → WasRefused Command.Schedule (S.left source.old) (S.left source.new) result }
-    ensures read { result ≡ Status.ReadFault → Rose (S.faults source.old) (S.faults source.new) }
-    ensures write { result ≡ Status.WriteFault → Rose (K.faults sink.old) (K.faults sink.new) }
-    ensures cut { result ≡ Status.WriteFault → WrotePart Command.Schedule (S.left source.old) (S.left source.new) (K.written sink.old) (K.written sink.new) }
-    ensures unwritten { result ≢ Status.Good → result ≢ Status.WriteFault → sink.new ≡ sink.old }
-    ensures words { result ≢ Status.Words }
-    ensures complete { IfSome (S.left source.old) (λ input.
-        ¬ Rose (S.faults source.old) (S.faults source.new) → ¬ Rose (K.faults sink.old) (K.faults sink.new) → IsAnswered Command.Schedule input result) }
+    ensures { Leaves S.left S.faults K.written K.faults (Is Command.Schedule) source.old source.new sink.old sink.new result }
 {
     let bytes = match read_input(alloc, Command::Schedule, source) {
         Ok(bytes) => bytes,
