@@ -3,9 +3,11 @@ use crate::{Status, run, schedule_run};
 use bay_core::Layout;
 use crossbeam_utils::Backoff;
 use image_core::{ImageFault, ImageKind};
+use image_reader::{make_image, write_image};
 use room_core::Refused;
 use room_io::{MemSink, MemSource};
 use std::alloc::{AllocError, Global};
+use std::process::Abort;
 use std::sync::Wait;
 use std::sync::atomic::{AtomicU64, Ordering};
 use std::test::Fail;
@@ -408,13 +410,16 @@ fn trial_refuses_texts(rt: HostRuntime) -> Result<(), Fail> {
     Ok(())
 }
 
-/// A gate for two callers. It holds each before its first line until the other has come there.
+/// A gate for two callers or workers. It holds each one's question 0 until the other has asked as many
+/// questions 0.
 #[derive(Drop)]
 struct Meeting {
-    /// How often the callers 0 and 1 asked.
+    /// How often 0 and 1 asked question 0.
     first: AtomicU64,
     second: AtomicU64,
-    /// How many callers gave up waiting.
+    /// How many questions were asked.
+    asked: AtomicU64,
+    /// How many of them gave up waiting.
     missed: AtomicU64,
 }
 
@@ -423,33 +428,42 @@ impl Meeting {
         Meeting {
             first: AtomicU64::new(0),
             second: AtomicU64::new(0),
+            asked: AtomicU64::new(0),
             missed: AtomicU64::new(0),
         }
     }
 
-    /// Returns once the other caller has asked, or after so many turns, which it counts.
-    fn wait_for(&self, other: &AtomicU64) {
+    /// Returns once the other has come to this round, or after so many turns, which it counts.
+    fn wait_for(&self, other: &AtomicU64, round: u64) {
         let backoff = Backoff::new();
         for _ in 0..10_000_000 {
-            if other.load(Ordering::SeqCst) > 0 {
+            if other.load(Ordering::SeqCst) >= round {
                 return;
             }
             backoff.snooze();
         }
         self.missed.fetch_add(1, Ordering::SeqCst);
     }
+
+    /// Fails unless nobody gave up waiting, and both asked question 0 so many times.
+    fn met<R: Abort>(&self, rt: &R, rounds: u64) {
+        assert_eq!(rt; self.missed.load(Ordering::SeqCst), 0);
+        assert_eq!(rt; self.first.load(Ordering::SeqCst), rounds);
+        assert_eq!(rt; self.second.load(Ordering::SeqCst), rounds);
+    }
 }
 
 impl Gate for Meeting {
     fn ask(&self, worker: u32, take: u64) {
-        let (mine, other) = if worker == 0 {
-            (&self.first, &self.second)
-        } else {
-            (&self.second, &self.first)
-        };
-        mine.fetch_add(1, Ordering::SeqCst);
+        self.asked.fetch_add(1, Ordering::SeqCst);
         if take == 0 {
-            self.wait_for(other);
+            let (mine, other) = if worker == 0 {
+                (&self.first, &self.second)
+            } else {
+                (&self.second, &self.first)
+            };
+            let before = mine.fetch_add(1, Ordering::SeqCst);
+            self.wait_for(other, before.saturating_add(1));
         }
     }
 }
@@ -467,11 +481,28 @@ fn callers_are_under_way_together(rt: HostRuntime) -> Result<(), Fail> {
     let gate = Meeting::new();
     let ended = Attempt::new(&["trial"], text).under(&rt, alloc, &gate)?;
     assert_eq!(rt; ended.status, Status::Good);
-    assert_eq!(rt; gate.missed.load(Ordering::SeqCst), 0);
-    assert_eq!(rt; gate.first.load(Ordering::SeqCst), 2);
-    assert_eq!(rt; gate.second.load(Ordering::SeqCst), 2);
+    gate.met(&rt, 1);
+    assert_eq!(rt; gate.asked.load(Ordering::SeqCst), 4);
     assert!(rt; has_line(ended.sink.written(), b"caller 0 answered 2 of 2"));
     assert!(rt; has_line(ended.sink.written(), b"caller 1 answered 2 of 2"));
+    Ok(())
+}
+
+#[test]
+fn workers_are_under_way_together(rt: HostRuntime) -> Result<(), Fail> {
+    let alloc = rt.alloc();
+    let bytes = write_image(alloc, &make_image(alloc, 100_000, 1)?)?;
+    let mut alone = Attempt::new(&["compact"], &bytes);
+    alone.room = bytes.len();
+    let mut together = Attempt::new(&["compact", "--workers", "2"], &bytes);
+    together.room = bytes.len();
+    let gate = Meeting::new();
+    let expected = alone.ended(&rt, alloc)?;
+    let ended = together.under(&rt, alloc, &gate)?;
+    gate.met(&rt, 1);
+    assert_eq!(rt; expected.status, Status::Good);
+    assert_eq!(rt; ended.status, Status::Good);
+    assert!(rt; ended.sink.written() == expected.sink.written());
     Ok(())
 }
 
