@@ -10,26 +10,27 @@ use Rattle.image_reader.proofs.Spelling.{length-spelling}
 use Rattle.image_reader.proofs.Once.{no_fault}
 use Rattle.rooms_program.specs.Commands.{most_bytes, Accepts, IsOutput, Refuses}
 use Rattle.rooms_program.specs.Runs.{WasRead}
+use Rattle.work_pool.specs.declared.crews.Crew.{Crew}
 use Rattle.rooms_program.specs.declared.words.Command.{Command}
 use Rattle.rooms_program.specs.declared.words.Command.TheVariants.{Compact, Schedule, Trial}
 use Rattle.rooms_program.specs.declared.status.Status.{Status}
 use Rattle.rooms_program.specs.declared.status.Status.TheVariants.{Good, Words, Image, ReadFault, WriteFault, Script, Act, TooLong, Memory}
 
 -- an image has no more bytes than an image may have
-image_size : (bytes : List ℕ) (heap : Heap) → IsImage bytes heap → length bytes ≤ most_bytes Compact
-image_size bytes heap i =
+image_size : (crew : Crew) (bytes : List ℕ) (heap : Heap) → IsImage bytes heap → length bytes ≤ most_bytes (Compact crew)
+image_size crew bytes heap i =
     let spells = i.spells in
     omega (arith, ap length spells.spelled_so, length-spelling heap.words heap.roots, spells.few_words, spells.few_roots)
 
 -- an input that is accepted is not too long
 pub accepted_size : (command : Command) (input : List ℕ) → Accepts command input → length input ≤ most_bytes command
-accepted_size Compact input a = image_size input a.0 a.1
+accepted_size (Compact crew) input a = image_size crew input a.0 a.1
 accepted_size Schedule input a = a.few
 accepted_size Trial input a = a.0
 
 -- an input that has an output is accepted
 output_accepted : (command : Command) (input output : List ℕ) → IsOutput command input output → Accepts command input
-output_accepted Compact input output o = (o.heap, o.image)
+output_accepted (Compact crew) input output o = (o.heap, o.image)
 output_accepted Schedule input output o = o.runnable
 output_accepted Trial input output o = (o.few, (o.outline, o.spells))
 
@@ -47,25 +48,25 @@ read_accepted command input bytes e a =
     subst (Accepts command) (sym (e ∙ whole)) a
 
 -- an image is not refused
-pub image_unrefused : (bytes : List ℕ) (heap : Heap) (why : Status) → IsImage bytes heap → Refuses Compact bytes why → ⊥
-image_unrefused bytes heap (Image fault) i r = no_fault bytes heap i r.1
-image_unrefused bytes heap Good i r = r
-image_unrefused bytes heap Words i r = r
-image_unrefused bytes heap ReadFault i r = r
-image_unrefused bytes heap WriteFault i r = r
-image_unrefused bytes heap (Script line) i r = r
-image_unrefused bytes heap (Act at act) i r = r
-image_unrefused bytes heap TooLong i r = r
-image_unrefused bytes heap Memory i r = r
+pub image_unrefused : (crew : Crew) (bytes : List ℕ) (heap : Heap) (why : Status) → IsImage bytes heap → Refuses (Compact crew) bytes why → ⊥
+image_unrefused crew bytes heap (Image fault) i r = no_fault bytes heap i r.1
+image_unrefused crew bytes heap Good i r = r
+image_unrefused crew bytes heap Words i r = r
+image_unrefused crew bytes heap ReadFault i r = r
+image_unrefused crew bytes heap WriteFault i r = r
+image_unrefused crew bytes heap (Script line) i r = r
+image_unrefused crew bytes heap (Act at act) i r = r
+image_unrefused crew bytes heap TooLong i r = r
+image_unrefused crew bytes heap Memory i r = r
 
 -- bytes that are no image are refused with the one fault that tells no more
-pub image_refusal : (bytes : List ℕ) (why : Status) → Refuses Compact bytes why → why ≡ Image other
-image_refusal bytes (Image fault) r = ap Image r.0
-image_refusal bytes Good r = absurd r
-image_refusal bytes Words r = absurd r
-image_refusal bytes ReadFault r = absurd r
-image_refusal bytes WriteFault r = absurd r
-image_refusal bytes (Script line) r = absurd r
-image_refusal bytes (Act at act) r = absurd r
-image_refusal bytes TooLong r = absurd r
-image_refusal bytes Memory r = absurd r
+pub image_refusal : (crew : Crew) (bytes : List ℕ) (why : Status) → Refuses (Compact crew) bytes why → why ≡ Image other
+image_refusal crew bytes (Image fault) r = ap Image r.0
+image_refusal crew bytes Good r = absurd r
+image_refusal crew bytes Words r = absurd r
+image_refusal crew bytes ReadFault r = absurd r
+image_refusal crew bytes WriteFault r = absurd r
+image_refusal crew bytes (Script line) r = absurd r
+image_refusal crew bytes (Act at act) r = absurd r
+image_refusal crew bytes TooLong r = absurd r
+image_refusal crew bytes Memory r = absurd r

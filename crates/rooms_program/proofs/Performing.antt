@@ -1,15 +1,17 @@
 -- What an answer says of the bytes that were read, and of what was made of them.
-use Rattle.std.proofs.Common.{◌≡◌, ◌⊎◌, ℕ, ◌+◌, List, take, IfOk, IfErr, IfSome, Some, None, Ok, Err, Vec, Global, inl, inr, sym, subst, ◌∙◌}
+use Rattle.std.proofs.Common.{◌≡◌, ◌≢◌, ◌⊎◌, ℕ, ◌+◌, List, take, IfOk, IfErr, IfSome, Some, None, Ok, Err, Vec, Global, refl, inl, inr, sym, subst, ◌∙◌}
 use Rattle.std.specs.declared.option.Option.{Option}
 use Rattle.std.specs.declared.result.Result.{Result}
 use Rattle.std.specs.Io.KnownBytes.{Appends}
-use Rattle.room_io.specs.Causes.{AppendsPrefix}
+use Rattle.room_io.specs.Causes.{Rose, AppendsPrefix}
 use Rattle.rooms_program.specs.Commands.{most_bytes, Accepts, IsOutput, Refuses}
-use Rattle.rooms_program.specs.Runs.{WasRead, WroteAll, WrotePart, WasRefused, IsAnswered, IsRefusal}
+use Rattle.rooms_program.specs.Runs.{WasRead, WroteAll, WrotePart, WasRefused, IsAnswered, IsRefusal, Leaves}
+use Rattle.rooms_program.specs.Words.{Is, Names}
 use Rattle.rooms_program.specs.declared.words.Command.{Command}
 use Rattle.rooms_program.specs.declared.status.Status.{Status}
-use Rattle.rooms_program.specs.declared.status.Status.TheVariants.{Good, WriteFault, Memory}
+use Rattle.rooms_program.specs.declared.status.Status.TheVariants.{Good, Words, ReadFault, WriteFault, Memory}
 use Rattle.rooms_program.proofs.Inputs.{read_to_end, read_accepted}
+use Rattle.rooms_program.proofs.Naming.{of_named}
 
 -- what is made of an input: an output, or why there is none
 abbrev Made : Type 0
@@ -22,7 +24,7 @@ IsWhy command bytes why = (why ≡ Memory) ⊎ (IsRefusal why × Refuses command
 module _ (command : Command) (left now_left : Option (List ℕ)) (bytes : List ℕ) (answer : Status)
     (read : WasRead (most_bytes command) left now_left bytes) where
   -- a refusal is of the bytes that were read
-  pub was_refused : (B : Type 0) (made : Made) → IfErr made (IsWhy command bytes)
+  was_refused : (B : Type 0) (made : Made) → IfErr made (IsWhy command bytes)
       → IfOk made (λ _. (answer ≡ Good) ⊎ ((answer ≡ WriteFault) × B)) → IfErr made (λ why. answer ≡ why)
       → IsRefusal answer → WasRefused command left now_left answer
   was_refused B (Ok output) why wrote same refusal =
@@ -35,7 +37,7 @@ module _ (command : Command) (left now_left : Option (List ℕ)) (bytes : List �
 
   module _ (written now_written : Option (List ℕ)) where
     -- where the answer is good, an output was made, and is written whole
-    pub wrote_all : (made : Made) → IfOk made (λ output. IsOutput command bytes output.items) → IfErr made (IsWhy command bytes)
+    wrote_all : (made : Made) → IfOk made (λ output. IsOutput command bytes output.items) → IfErr made (IsWhy command bytes)
         → IfOk made (λ output. answer ≡ Good → Appends written now_written output.items) → IfErr made (λ why. answer ≡ why)
         → answer ≡ Good → WroteAll command left now_left written now_written
     wrote_all (Ok output) defined why wrote same good = record {
@@ -50,7 +52,7 @@ module _ (command : Command) (left now_left : Option (List ℕ)) (bytes : List �
         absurd (elim why [ inl m ↦ cc | inr r ↦ subst IsRefusal (sym same ∙ good) r.0 ])
 
     -- where a write failed, an output was made, and a prefix of it is written
-    pub wrote_part : (made : Made) → IfOk made (λ output. IsOutput command bytes output.items) → IfErr made (IsWhy command bytes)
+    wrote_part : (made : Made) → IfOk made (λ output. IsOutput command bytes output.items) → IfErr made (IsWhy command bytes)
         → IfOk made (λ output. answer ≡ WriteFault → AppendsPrefix written now_written output.items) → IfErr made (λ why. answer ≡ why)
         → answer ≡ WriteFault → WrotePart command left now_left written now_written
     wrote_part (Ok output) defined why wrote same fault = record {
@@ -80,7 +82,7 @@ module _ (B : Type 0) (answer : Status) where
   answer_refused (Err e) why told same = elim told [ inl is ↦ inl cc | inr is ↦ inr cc ]
 
   -- the answer that an input gets is that of the bytes that were read of it
-  pub answered : (A : Type 0) (command : Command) (left : Option (List ℕ)) (bytes : List ℕ) (made : Made)
+  answered : (A : Type 0) (command : Command) (left : Option (List ℕ)) (bytes : List ℕ) (made : Made)
       → IfSome left (λ input. bytes ≡ take (most_bytes command + 1) input)
       → (Accepts command bytes → IfErr made (λ why. why ≡ Memory))
       → ((why : Status) → Refuses command bytes why → (made ≡ Err why) ⊎ (made ≡ Err Memory))
@@ -94,3 +96,71 @@ module _ (B : Type 0) (answer : Status) where
             let P : List ℕ → Type 0 = λ b. Refuses command b why in
             answer_refused made why (refuses why (subst P (sym known) r)) same;
       }
+
+-- what holds of good, of a failed write, of want of memory and of each refusal of the bytes holds of the answer
+module _ (command : Command) (bytes : List ℕ) (answer : Status) (B : Type 0) where
+  ended : (P : Status → Type 0) → P Good → (B → P WriteFault) → P Memory → ((why : Status) → IsRefusal why → P why)
+      → (made : Made) → IfErr made (IsWhy command bytes) → IfOk made (λ _. (answer ≡ Good) ⊎ ((answer ≡ WriteFault) × B))
+      → IfErr made (λ why. answer ≡ why) → P answer
+  ended P good fault memory refusal (Ok output) why wrote same =
+      elim wrote [ inl is ↦ subst P (sym is) good | inr is ↦ subst P (sym is.0) (fault is.1) ]
+  ended P good fault memory refusal (Err e) why wrote same =
+      let h : P e = elim why [ inl is ↦ subst P (sym is) memory | inr r ↦ refusal e r.0 ] in
+      subst P (sym same) h
+
+-- where neither an output was written nor a part of one, the sink is as it was
+kept : {K : Type 0} (sink now_sink : K) (answer : Status) (B : Type 0) (made : Made) → IfErr made (λ _. now_sink ≡ sink)
+    → IfOk made (λ _. (answer ≡ Good) ⊎ ((answer ≡ WriteFault) × B)) → answer ≢ Good → answer ≢ WriteFault → now_sink ≡ sink
+kept sink now_sink answer B (Ok output) same wrote no_good no_fault =
+    absurd (elim wrote [ inl good ↦ no_good good | inr fault ↦ no_fault fault.0 ])
+kept sink now_sink answer B (Err e) same wrote no_good no_fault = same
+
+-- what holds of a command holds of each that is this one
+for_this : (P : Command → Type 0) (this : Command) → P this → (told : Command) → Is this told → P told
+for_this P this h told is = subst P (sym is) h
+
+module _ {S K : Type 0} (left : S → Option (List ℕ)) (read_faults : S → ℕ) (written : K → Option (List ℕ)) (write_faults : K → ℕ)
+    (source now_source : S) (sink now_sink : K) (answer : Status) where
+  -- a run that reads an input, makes what it is to write of it, and writes that, leaves what it should
+  pub performed : (command : Command) (bytes : List ℕ) (made : Made)
+      → WasRead (most_bytes command) (left source) (left now_source) bytes
+      → IfSome (left source) (λ input. bytes ≡ take (most_bytes command + 1) input)
+      → IfOk made (λ output. IsOutput command bytes output.items) → IfErr made (IsWhy command bytes)
+      → (Accepts command bytes → IfErr made (λ why. why ≡ Memory))
+      → ((why : Status) → Refuses command bytes why → (made ≡ Err why) ⊎ (made ≡ Err Memory))
+      → IfOk made (λ output. answer ≡ Good → Appends (written sink) (written now_sink) output.items)
+      → IfOk made (λ output. answer ≡ WriteFault → AppendsPrefix (written sink) (written now_sink) output.items)
+      → IfOk made (λ _. (answer ≡ Good) ⊎ ((answer ≡ WriteFault) × Rose (write_faults sink) (write_faults now_sink)))
+      → IfErr made (λ why. answer ≡ why) → IfErr made (λ _. now_sink ≡ sink)
+      → Leaves left read_faults written write_faults (Is command) source now_source sink now_sink answer
+  performed command bytes made read known defined why accepts refuses good cut wrote same unwritten =
+      let B = Rose (write_faults sink) (write_faults now_sink) in
+      let no_words : answer ≢ Words = ended command bytes answer B (λ s. s ≢ Words) (λ e. cc) (λ _ e. cc) (λ e. cc) (λ s r e. subst IsRefusal e r) made why wrote same in
+      let no_read : answer ≢ ReadFault = ended command bytes answer B (λ s. s ≢ ReadFault) (λ e. cc) (λ _ e. cc) (λ e. cc) (λ s r e. subst IsRefusal e r) made why wrote same in
+      record {
+        words = (λ e. absurd (no_words e), λ none. absurd (none command refl));
+        unread = λ e. absurd (no_words e);
+        good = for_this _ command (wrote_all command (left source) (left now_source) bytes answer read (written sink) (written now_sink) made defined why good same);
+        refused = for_this _ command (was_refused command (left source) (left now_source) bytes answer read B made why wrote same);
+        read = λ e. absurd (no_read e);
+        write = ended command bytes answer B (λ s. s ≡ WriteFault → B) (λ e. absurd (cc)) (λ b e. b) (λ e. absurd (cc)) (λ s r e. absurd (subst IsRefusal e r)) made why wrote same;
+        cut = for_this _ command (wrote_part command (left source) (left now_source) bytes answer read (written sink) (written now_sink) made defined why cut same);
+        unwritten = kept sink now_sink answer B made unwritten wrote;
+        complete = for_this _ command (answered B answer (Rose (read_faults source) (read_faults now_source)) command (left source) bytes made known accepts refuses wrote same);
+      }
+
+  -- and where words name the command, it leaves what they tell
+  pub told : (words : List (List ℕ)) (this : Command) → Names words this
+      → Leaves left read_faults written write_faults (Is this) source now_source sink now_sink answer
+      → Leaves left read_faults written write_faults (Names words) source now_source sink now_sink answer
+  told words this names run = record {
+    words = (λ e. absurd (run.words.0 e this refl), λ none. absurd (none this names));
+    unread = run.unread;
+    good = of_named _ words this names (run.good this refl);
+    refused = of_named _ words this names (run.refused this refl);
+    read = run.read;
+    write = run.write;
+    cut = of_named _ words this names (run.cut this refl);
+    unwritten = run.unwritten;
+    complete = of_named _ words this names (run.complete this refl);
+  }

@@ -1,5 +1,5 @@
--- The commands: the words that name one, the inputs that are accepted, the output of an input, and what is refused.
-use Rattle.std.specs.Prelude.{◌≡◌, ℕ, ◌<◌, ◌≤◌, List, [], ◌∷◌, length, codes}
+-- The commands: the inputs that are accepted, the output of an input, and what is refused.
+use Rattle.std.specs.Prelude.{◌≡◌, ℕ, ◌<◌, ◌≤◌, List, length}
 use Rattle.image_core.specs.Fault.{other}
 use Rattle.image_core.specs.Heap.{Heap}
 use Rattle.image_reader.specs.Bytes.{IsImage}
@@ -16,37 +16,27 @@ use Rattle.rooms_program.specs.declared.words.Command.TheVariants.{Compact, Sche
 use Rattle.rooms_program.specs.declared.status.Status.{Status}
 use Rattle.rooms_program.specs.declared.status.Status.TheVariants.{Image, Script, Act, TooLong}
 
--- the words of a command
-abbrev pub words_of : Command → List (List ℕ)
-words_of Compact = codes "compact" ∷ []
-words_of Schedule = codes "schedule" ∷ []
-words_of Trial = codes "trial" ∷ []
-
--- the words name the command
-abbrev pub Names : List (List ℕ) → Command → Type 0
-Names words command = words ≡ words_of command
-
 -- the most bytes of an input: of an image 24, and 8 for each of 2 ^ 22 words and 2 ^ 16 roots
 abbrev pub most_bytes : Command → ℕ
-most_bytes Compact = 34078744
+most_bytes (Compact crew) = 34078744
 most_bytes Schedule = most_text
 most_bytes Trial = most_text
 
 -- an input is accepted: it is an image; a schedule of which the core accepts each act; or a trial that is not too long
 abbrev pub Accepts : Command → List ℕ → Type 0
-Accepts Compact input = (heap : Heap) × IsImage input heap
+Accepts (Compact crew) input = (heap : Heap) × IsImage input heap
 Accepts Schedule input = IsRunnable input
 Accepts Trial input = (length input ≤ most_text) × IsTrial (lines_of input)
 
--- an output of an input: a trial may have several, by which caller comes first
+-- an output of an input: that of an image is the same for each crew; a trial may have several, by which caller comes first
 abbrev pub IsOutput : Command → List ℕ → List ℕ → Type 0
-IsOutput Compact input output = IsCompacted input output
+IsOutput (Compact crew) input output = IsCompacted input output
 IsOutput Schedule input output = IsScheduled input output
 IsOutput Trial input output = IsTried input output
 
 -- the bytes of an input are refused, and this says why: of bytes that are no image, no more than that
 abbrev pub Refuses : Command → List ℕ → Status → Type 0
-Refuses Compact bytes (Image fault) = (fault ≡ other) × HasFault bytes
+Refuses (Compact crew) bytes (Image fault) = (fault ≡ other) × HasFault bytes
 Refuses Schedule bytes TooLong = most_text < length bytes
 Refuses Schedule bytes (Script line) = IsBroken IsSchedule bytes line
 Refuses Schedule bytes (Act at why) = IsStopped bytes at why

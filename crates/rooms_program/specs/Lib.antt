@@ -5,3 +5,4 @@ pub mod Schedules
 pub mod Statuses
 pub mod Texts
 pub mod Trials
+pub mod Words

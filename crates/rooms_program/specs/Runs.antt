@@ -1,5 +1,5 @@
 -- What a run of a command did to its source, its sink and its notes.
-use Rattle.std.specs.Prelude.{◌≡◌, ℕ, ◌+◌, ◌⊎◌, List, length, take}
+use Rattle.std.specs.Prelude.{◌≡◌, ◌≢◌, ◌↔◌, ℕ, ◌+◌, ◌⊎◌, List, length, take, IfSome}
 use Rattle.std.specs.declared.option.Option.{Option}
 use Rattle.std.specs.Io.KnownBytes.{Appends, Consumes, IsAtEnd}
 use Rattle.room_io.specs.Causes.{Rose, AppendsPrefix}
@@ -7,6 +7,7 @@ use Rattle.rooms_program.specs.Commands.{most_bytes, Accepts, IsOutput, Refuses}
 use Rattle.rooms_program.specs.declared.words.Command.{Command}
 use Rattle.rooms_program.specs.declared.status.Status.{Status}
 use Rattle.rooms_program.specs.declared.status.Status.TheVariants as status
+use Rattle.rooms_program.specs.Statuses.{note_of}
 
 -- these bytes were read: all of the input, or one more than the most that can be accepted
 pub record WasRead (most : ℕ) (left now_left : Option (List ℕ)) (bytes : List ℕ) : Type 0 where
@@ -53,3 +54,24 @@ IsRefusal _ = ⊥
 -- the notes gained the whole text, or a prefix of it where their count of faults rose
 abbrev pub IsNoted : Option (List ℕ) → Option (List ℕ) → ℕ → ℕ → List ℕ → Type 0
 IsNoted old new faults now_faults text = Appends old new text ⊎ (Rose faults now_faults × AppendsPrefix old new text)
+
+-- what a run leaves of its source and its sink, where these are the commands that it was told, and this is its answer
+pub record Leaves {S K : Type 0} (left : S → Option (List ℕ)) (read_faults : S → ℕ) (written : K → Option (List ℕ)) (write_faults : K → ℕ)
+    (Told : Command → Type 0) (source now_source : S) (sink now_sink : K) (answer : Status) : Type 0 where
+  pub words : (answer ≡ status.Words) ↔ ((command : Command) → ¬ Told command)
+  pub unread : answer ≡ status.Words → now_source ≡ source
+  pub good : (command : Command) → Told command → answer ≡ status.Good
+      → WroteAll command (left source) (left now_source) (written sink) (written now_sink)
+  pub refused : (command : Command) → Told command → IsRefusal answer → WasRefused command (left source) (left now_source) answer
+  pub read : answer ≡ status.ReadFault → Rose (read_faults source) (read_faults now_source)
+  pub write : answer ≡ status.WriteFault → Rose (write_faults sink) (write_faults now_sink)
+  pub cut : (command : Command) → Told command → answer ≡ status.WriteFault
+      → WrotePart command (left source) (left now_source) (written sink) (written now_sink)
+  pub unwritten : answer ≢ status.Good → answer ≢ status.WriteFault → now_sink ≡ sink
+  pub complete : (command : Command) → Told command → IfSome (left source) (λ input.
+      ¬ Rose (read_faults source) (read_faults now_source) → ¬ Rose (write_faults sink) (write_faults now_sink) → IsAnswered command input answer)
+
+-- what a run with this answer leaves of its notes
+pub record LeavesNote {N : Type 0} (written : N → Option (List ℕ)) (faults : N → ℕ) (notes now_notes : N) (answer : Status) : Type 0 where
+  pub noted : answer ≢ status.Good → IsNoted (written notes) (written now_notes) (faults notes) (faults now_notes) (note_of answer)
+  pub silent : answer ≡ status.Good → now_notes ≡ notes

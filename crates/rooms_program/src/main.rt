@@ -1,5 +1,5 @@
 //! The program: its words name a command, which reads standard input and writes standard output. The
-//! callers of a trial are held by nobody.
+//! workers of `compact` and the callers of a trial are held by nobody.
 #![tactic(auto)]
 
 mod compact;

@@ -1,8 +1,8 @@
 //! The note that a refusal leaves.
-ghost use Rattle.std.specs.Prelude.{◌≡◌, ◌≢◌, ◌≤◌, ◌+◌, ◌++◌, length, decimal};
+ghost use Rattle.std.specs.Prelude.{◌≡◌, ◌≤◌, ◌+◌, ◌++◌, length, decimal};
 ghost use Rattle.arrayvec.specs.ArrayString.{array_string_len};
 ghost use Rattle.rooms_program.specs.Statuses.{note_of, kind_name, refusal_name};
-ghost use Rattle.rooms_program.specs.Runs.{IsNoted};
+ghost use Rattle.rooms_program.specs.Runs.{LeavesNote};
 
 use crate::status::Status;
 use arrayvec::ArrayString;
@@ -115,8 +115,7 @@ fn note(status: Status) -> Line
 /// Writes the note of a status that is a refusal. It takes no memory. A note that is cut short
 /// by a fault of the notes changes no status.
 pub fn give_note<N: Sink>(notes: &mut N, status: Status)
-    ensures noted { status ≢ Status.Good → IsNoted (N.written notes.old) (N.written notes.new) (N.faults notes.old) (N.faults notes.new) (note_of status) }
-    ensures silent { status ≡ Status.Good → notes.new ≡ notes.old }
+    ensures { LeavesNote N.written N.faults notes.old notes.new status }
 {
     if status != Status::Good {
         let line = note(status);

@@ -1,9 +1,10 @@
 //! Performing a command: the input is read, its output made whole in memory, and then written.
-ghost use Rattle.std.specs.Prelude.{◌≡◌, ◌≢◌, ◌⊎◌, ◌+◌, ◌≤◌, take, Err, IfOk, IfErr, IfSome};
+ghost use Rattle.std.specs.Prelude.{◌≡◌, ◌⊎◌, ◌+◌, ◌≤◌, take, Err, IfOk, IfErr, IfSome};
 ghost use Rattle.std.specs.Io.KnownBytes.{Appends};
 ghost use Rattle.room_io.specs.Causes.{Rose, AppendsPrefix};
 ghost use Rattle.rooms_program.specs.Commands.{most_bytes, Accepts, IsOutput, Refuses};
-ghost use Rattle.rooms_program.specs.Runs.{WasRead, WroteAll, WrotePart, WasRefused, IsAnswered, IsRefusal};
+ghost use Rattle.rooms_program.specs.Words.{HasCrew, Is};
+ghost use Rattle.rooms_program.specs.Runs.{WasRead, IsRefusal, Leaves};
 
 use crate::compact::compacted;
 use crate::schedule::{MOST_TEXT, scheduled};
@@ -21,7 +22,7 @@ fn most(command: Command) -> usize
     ensures small { result ≤ 34078744 }
 {
     match command {
-        Command::Compact => 34_078_744,
+        Command::Compact(_) => 34_078_744,
         Command::Schedule | Command::Trial => MOST_TEXT,
     }
 }
@@ -34,13 +35,14 @@ fn output<R: Threads + Wait + Sync, G: Gate + Sync>(
     bytes: Vec<u8>,
     gate: &G,
 ) -> Result<Vec<u8>, Status>
+    requires { HasCrew command }
     ensures output { IfOk result (λ output. IsOutput command bytes.items output.items) }
     ensures why { IfErr result (λ why. (why ≡ Status.Memory) ⊎ (IsRefusal why × Refuses command bytes.items why)) }
     ensures accepts { Accepts command bytes.items → IfErr result (λ why. why ≡ Status.Memory) }
     ensures refuses { (why : Status) → Refuses command bytes.items why → (result ≡ Err why) ⊎ (result ≡ Err Status.Memory) }
 {
     match command {
-        Command::Compact => compacted(alloc, bytes),
+        Command::Compact(crew) => compacted(rt, alloc, &crew, bytes, gate),
         Command::Schedule => scheduled(alloc, &bytes),
         Command::Trial => tried(rt, alloc, &bytes, gate),
     }
@@ -84,7 +86,8 @@ fn write_made<K: Sink>(sink: &mut K, made: Result<Vec<u8>, Status>) -> Status
     }
 }
 
-/// Reads the input of a command and writes an output of it. It waits for a trial's callers alone.
+/// Reads the input of a command and writes an output of it. It waits for the workers
+/// of `compact` and the callers of a trial alone.
 pub fn perform<R: Threads + Wait + Sync, S: Source, K: Sink, G: Gate + Sync>(
     rt: &R,
     alloc: Global,
@@ -93,15 +96,8 @@ pub fn perform<R: Threads + Wait + Sync, S: Source, K: Sink, G: Gate + Sync>(
     sink: &mut K,
     gate: &G,
 ) -> Status
-    ensures good { result ≡ Status.Good → WroteAll command (S.left source.old) (S.left source.new) (K.written sink.old) (K.written sink.new) }
-    ensures refused { IsRefusal result → WasRefused command (S.left source.old) (S.left source.new) result }
-    ensures read { result ≡ Status.ReadFault → Rose (S.faults source.old) (S.faults source.new) }
-    ensures write { result ≡ Status.WriteFault → Rose (K.faults sink.old) (K.faults sink.new) }
-    ensures cut { result ≡ Status.WriteFault → WrotePart command (S.left source.old) (S.left source.new) (K.written sink.old) (K.written sink.new) }
-    ensures unwritten { result ≢ Status.Good → result ≢ Status.WriteFault → sink.new ≡ sink.old }
-    ensures words { result ≢ Status.Words }
-    ensures complete { IfSome (S.left source.old) (λ input.
-        ¬ Rose (S.faults source.old) (S.faults source.new) → ¬ Rose (K.faults sink.old) (K.faults sink.new) → IsAnswered command input result) }
+    requires { HasCrew command }
+    ensures { Leaves S.left S.faults K.written K.faults (Is command) source.old source.new sink.old sink.new result }
 {
     let bytes = match read_input(alloc, command, source) {
         Ok(bytes) => bytes,
@@ -113,15 +109,7 @@ pub fn perform<R: Threads + Wait + Sync, S: Source, K: Sink, G: Gate + Sync>(
 
 /// Reads a schedule and writes the run of the protocol on its acts. It waits for nobody.
 pub fn perform_schedule<S: Source, K: Sink>(alloc: Global, source: &mut S, sink: &mut K) -> Status
-    ensures good { result ≡ Status.Good → WroteAll Command.Schedule (S.left source.old) (S.left source.new) (K.written sink.old) (K.written sink.new) }
-    ensures refused { IsRefusal result → WasRefused Command.Schedule (S.left source.old) (S.left source.new) result }
-    ensures read { result ≡ Status.ReadFault → Rose (S.faults source.old) (S.faults source.new) }
-    ensures write { result ≡ Status.WriteFault → Rose (K.faults sink.old) (K.faults sink.new) }
-    ensures cut { result ≡ Status.WriteFault → WrotePart Command.Schedule (S.left source.old) (S.left source.new) (K.written sink.old) (K.written sink.new) }
-    ensures unwritten { result ≢ Status.Good → result ≢ Status.WriteFault → sink.new ≡ sink.old }
-    ensures words { result ≢ Status.Words }
-    ensures complete { IfSome (S.left source.old) (λ input.
-        ¬ Rose (S.faults source.old) (S.faults source.new) → ¬ Rose (K.faults sink.old) (K.faults sink.new) → IsAnswered Command.Schedule input result) }
+    ensures { Leaves S.left S.faults K.written K.faults (Is Command.Schedule) source.old source.new sink.old sink.new result }
 {
     let bytes = match read_input(alloc, Command::Schedule, source) {
         Ok(bytes) => bytes,

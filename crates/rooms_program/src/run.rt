@@ -1,9 +1,7 @@
 //! The top call.
-ghost use Rattle.std.specs.Prelude.{◌≡◌, ◌≢◌, ◌↔◌, map, string_bytes, IfSome};
-ghost use Rattle.room_io.specs.Causes.{Rose};
-ghost use Rattle.rooms_program.specs.Commands.{Names};
-ghost use Rattle.rooms_program.specs.Runs.{WroteAll, WrotePart, WasRefused, IsAnswered, IsRefusal, IsNoted};
-ghost use Rattle.rooms_program.specs.Statuses.{note_of};
+ghost use Rattle.std.specs.Prelude.{map, string_bytes};
+ghost use Rattle.rooms_program.specs.Words.{Is, Names};
+ghost use Rattle.rooms_program.specs.Runs.{Leaves, LeavesNote};
 
 use crate::notes::give_note;
 use crate::perform::{perform, perform_schedule};
@@ -16,10 +14,14 @@ use std::thread::Threads;
 use work_pool::Gate;
 
 /// Performs the command that the words name, from the source to the sink, and leaves a note of one
-/// line for a status other than `Good`. It waits for a trial's callers alone.
+/// line for a status other than `Good`. It waits for the workers of `compact` and the callers of a
+/// trial alone.
 ///
 /// `compact` reads an image and writes its slide: the live objects alone, in order, moved down
-/// without gaps. `schedule` reads a text of acts and prints the run of the protocol on them.
+/// without gaps. A crew does it, of 1 worker over 64 blocks or of as many as `--workers N` and
+/// `--blocks B` after it say, in this order; what is written is the same for each crew. Before each
+/// try to take an object the gate is asked with the worker's number, and how often that worker had
+/// asked. `schedule` reads a text of acts and prints the run of the protocol on them.
 /// `trial` reads a text of callers' scripts, has each caller make the calls of its script on one
 /// bay, in a thread of its own where one can be made, and prints their one history, how many lines
 /// each caller had answered, and what is left in the bay. Before line i of caller c the gate is
@@ -46,21 +48,8 @@ pub fn run<R: Threads + Wait + Sync, S: Source, K: Sink, N: Sink, G: Gate + Sync
     notes: &mut N,
     gate: &G,
 ) -> Status
-    ensures words { (result ≡ Status.Words) ↔ ((command : Command) → ¬ Names (map string_bytes words.now) command) }
-    ensures unread { result ≡ Status.Words → source.new ≡ source.old }
-    ensures good { (command : Command) → Names (map string_bytes words.now) command → result ≡ Status.Good
-        → WroteAll command (S.left source.old) (S.left source.new) (K.written sink.old) (K.written sink.new) }
-    ensures refused { (command : Command) → Names (map string_bytes words.now) command → IsRefusal result
-        → WasRefused command (S.left source.old) (S.left source.new) result }
-    ensures read { result ≡ Status.ReadFault → Rose (S.faults source.old) (S.faults source.new) }
-    ensures write { result ≡ Status.WriteFault → Rose (K.faults sink.old) (K.faults sink.new) }
-    ensures cut { (command : Command) → Names (map string_bytes words.now) command → result ≡ Status.WriteFault
-        → WrotePart command (S.left source.old) (S.left source.new) (K.written sink.old) (K.written sink.new) }
-    ensures unwritten { result ≢ Status.Good → result ≢ Status.WriteFault → sink.new ≡ sink.old }
-    ensures noted { result ≢ Status.Good → IsNoted (N.written notes.old) (N.written notes.new) (N.faults notes.old) (N.faults notes.new) (note_of result) }
-    ensures silent { result ≡ Status.Good → notes.new ≡ notes.old }
-    ensures complete { (command : Command) → Names (map string_bytes words.now) command → IfSome (S.left source.old) (λ input.
-        ¬ Rose (S.faults source.old) (S.faults source.new) → ¬ Rose (K.faults sink.old) (K.faults sink.new) → IsAnswered command input result) }
+    ensures leaves { Leaves S.left S.faults K.written K.faults (Names (map string_bytes words.now)) source.old source.new sink.old sink.new result }
+    ensures note { LeavesNote N.written N.faults notes.old notes.new result }
 {
     let status = answer(rt, alloc, words, source, sink, gate);
     give_note(notes, status);
@@ -68,6 +57,7 @@ pub fn run<R: Threads + Wait + Sync, S: Source, K: Sink, N: Sink, G: Gate + Sync
 }
 
 /// Performs the command that the words name, if they name one.
+#[tactic(auto, using(crate::proofs::Naming::named_crew))]
 fn answer<R: Threads + Wait + Sync, S: Source, K: Sink, G: Gate + Sync>(
     rt: &R,
     alloc: Global,
@@ -76,19 +66,7 @@ fn answer<R: Threads + Wait + Sync, S: Source, K: Sink, G: Gate + Sync>(
     sink: &mut K,
     gate: &G,
 ) -> Status
-    ensures words { (result ≡ Status.Words) ↔ ((command : Command) → ¬ Names (map string_bytes words.now) command) }
-    ensures unread { result ≡ Status.Words → source.new ≡ source.old }
-    ensures good { (command : Command) → Names (map string_bytes words.now) command → result ≡ Status.Good
-        → WroteAll command (S.left source.old) (S.left source.new) (K.written sink.old) (K.written sink.new) }
-    ensures refused { (command : Command) → Names (map string_bytes words.now) command → IsRefusal result
-        → WasRefused command (S.left source.old) (S.left source.new) result }
-    ensures read { result ≡ Status.ReadFault → Rose (S.faults source.old) (S.faults source.new) }
-    ensures write { result ≡ Status.WriteFault → Rose (K.faults sink.old) (K.faults sink.new) }
-    ensures cut { (command : Command) → Names (map string_bytes words.now) command → result ≡ Status.WriteFault
-        → WrotePart command (S.left source.old) (S.left source.new) (K.written sink.old) (K.written sink.new) }
-    ensures unwritten { result ≢ Status.Good → result ≢ Status.WriteFault → sink.new ≡ sink.old }
-    ensures complete { (command : Command) → Names (map string_bytes words.now) command → IfSome (S.left source.old) (λ input.
-        ¬ Rose (S.faults source.old) (S.faults source.new) → ¬ Rose (K.faults sink.old) (K.faults sink.new) → IsAnswered command input result) }
+    ensures { Leaves S.left S.faults K.written K.faults (Names (map string_bytes words.now)) source.old source.new sink.old sink.new result }
 {
     match named_command(words) {
         Some(command) => perform(rt, alloc, command, source, sink, gate),
@@ -104,19 +82,8 @@ pub fn schedule_run<S: Source, K: Sink, N: Sink>(
     sink: &mut K,
     notes: &mut N,
 ) -> Status
-    ensures good { result ≡ Status.Good
-        → WroteAll Command.Schedule (S.left source.old) (S.left source.new) (K.written sink.old) (K.written sink.new) }
-    ensures refused { IsRefusal result → WasRefused Command.Schedule (S.left source.old) (S.left source.new) result }
-    ensures read { result ≡ Status.ReadFault → Rose (S.faults source.old) (S.faults source.new) }
-    ensures write { result ≡ Status.WriteFault → Rose (K.faults sink.old) (K.faults sink.new) }
-    ensures cut { result ≡ Status.WriteFault
-        → WrotePart Command.Schedule (S.left source.old) (S.left source.new) (K.written sink.old) (K.written sink.new) }
-    ensures unwritten { result ≢ Status.Good → result ≢ Status.WriteFault → sink.new ≡ sink.old }
-    ensures words { result ≢ Status.Words }
-    ensures noted { result ≢ Status.Good → IsNoted (N.written notes.old) (N.written notes.new) (N.faults notes.old) (N.faults notes.new) (note_of result) }
-    ensures silent { result ≡ Status.Good → notes.new ≡ notes.old }
-    ensures complete { IfSome (S.left source.old) (λ input.
-        ¬ Rose (S.faults source.old) (S.faults source.new) → ¬ Rose (K.faults sink.old) (K.faults sink.new) → IsAnswered Command.Schedule input result) }
+    ensures leaves { Leaves S.left S.faults K.written K.faults (Is Command.Schedule) source.old source.new sink.old sink.new result }
+    ensures note { LeavesNote N.written N.faults notes.old notes.new result }
 {
     let status = perform_schedule(alloc, source, sink);
     give_note(notes, status);

@@ -1,14 +1,18 @@
+use crate::words::{Command, named_command};
 use crate::{Status, run, schedule_run};
+use bay_core::Layout;
 use crossbeam_utils::Backoff;
 use image_core::{ImageFault, ImageKind};
+use image_reader::{make_image, write_image};
 use room_core::Refused;
 use room_io::{MemSink, MemSource};
 use std::alloc::{AllocError, Global};
+use std::process::Abort;
 use std::sync::Wait;
 use std::sync::atomic::{AtomicU64, Ordering};
 use std::test::Fail;
 use std::thread::Threads;
-use work_pool::{Gate, OpenGate};
+use work_pool::{Crew, Gate, OpenGate};
 
 /// The bytes of an image: its magic, and then these numbers.
 fn image(alloc: Global, numbers: &[u64]) -> Result<Vec<u8>, AllocError> {
@@ -28,41 +32,72 @@ struct Ended {
     source: MemSource,
 }
 
-/// A run of `compact` over devices of which the calls that are named fail.
-fn compacted<R: Threads + Wait + Sync>(
-    rt: &R,
-    alloc: Global,
-    bytes: Vec<u8>,
+/// A run to come: its words and its input, how many bytes its sink takes, and the calls of its devices
+/// that fail.
+#[derive(Drop)]
+struct Attempt<'a> {
+    words: &'a [&'a str],
+    input: &'a [u8],
+    room: usize,
     failing_read: Option<u64>,
     failing_write: Option<u64>,
-) -> Result<Ended, AllocError> {
-    let words = [String::from_str(alloc, "compact")?];
-    let mut reads = Vec::new(alloc);
-    if let Some(call) = failing_read {
-        reads.push(call)?;
+}
+
+impl<'a> Attempt<'a> {
+    /// A run on devices that do not fail.
+    fn new(words: &'a [&'a str], input: &'a [u8]) -> Attempt<'a> {
+        Attempt {
+            words,
+            input,
+            room: 1000,
+            failing_read: None,
+            failing_write: None,
+        }
     }
-    let mut writes = Vec::new(alloc);
-    if let Some(call) = failing_write {
-        writes.push(call)?;
+
+    /// Runs it under a gate.
+    fn under<R: Threads + Wait + Sync, G: Gate + Sync>(
+        &self,
+        rt: &R,
+        alloc: Global,
+        gate: &G,
+    ) -> Result<Ended, AllocError> {
+        let words = spelled(alloc, self.words)?;
+        let input = Vec::from_slice(alloc, self.input)?;
+        let mut source = MemSource::new(input, calls(alloc, self.failing_read)?, 1000);
+        let mut sink = MemSink::new(alloc, self.room, calls(alloc, self.failing_write)?, 24)?;
+        let mut notes = MemSink::new(alloc, 100, Vec::new(alloc), 7)?;
+        let status = run(rt, alloc, &words, &mut source, &mut sink, &mut notes, gate);
+        Ok(Ended {
+            status,
+            sink,
+            notes,
+            source,
+        })
     }
-    let mut source = MemSource::new(bytes, reads, 1000);
-    let mut sink = MemSink::new(alloc, 100, writes, 24)?;
-    let mut notes = MemSink::new(alloc, 100, Vec::new(alloc), 7)?;
-    let status = run(
-        rt,
-        alloc,
-        &words,
-        &mut source,
-        &mut sink,
-        &mut notes,
-        &OpenGate,
-    );
-    Ok(Ended {
-        status,
-        sink,
-        notes,
-        source,
-    })
+
+    /// Runs it with nobody held.
+    fn ended<R: Threads + Wait + Sync>(&self, rt: &R, alloc: Global) -> Result<Ended, AllocError> {
+        self.under(rt, alloc, &OpenGate)
+    }
+}
+
+/// The words of a command line.
+fn spelled(alloc: Global, words: &[&str]) -> Result<Vec<String>, AllocError> {
+    let mut all = Vec::new(alloc);
+    for word in words {
+        all.push(String::from_str(alloc, word)?)?;
+    }
+    Ok(all)
+}
+
+/// The calls of a device that fail: one, or none.
+fn calls(alloc: Global, failing: Option<u64>) -> Result<Vec<u64>, AllocError> {
+    let mut all = Vec::new(alloc);
+    if let Some(call) = failing {
+        all.push(call)?;
+    }
+    Ok(all)
 }
 
 const FIVE_WORDS: [u64; 8] = [5, 1, 30064771073, 5, 34359803904, 99, 38654705664, 1];
@@ -76,11 +111,19 @@ fn compact_keeps_the_live_objects(rt: HostRuntime) -> Result<(), Fail> {
         (&[4, 0, 4294967297, 3, 4294967297, 1], &[0, 0]),
         (&[2, 2, 21474836481, 1, 0, 1], &[2, 2, 21474836481, 1, 0, 1]),
     ];
+    let crews: [&[&str]; 3] = [
+        &["compact"],
+        &["compact", "--workers", "4"],
+        &["compact", "--workers", "4", "--blocks", "1"],
+    ];
     for (input, output) in cases {
-        let ended = compacted(&rt, alloc, image(alloc, input)?, None, None)?;
-        assert_eq!(rt; ended.status, Status::Good);
-        assert_eq!(rt; ended.sink.written(), image(alloc, output)?.as_slice());
-        assert!(rt; ended.notes.written().is_empty());
+        let input = image(alloc, input)?;
+        for words in crews {
+            let ended = Attempt::new(words, &input).ended(&rt, alloc)?;
+            assert_eq!(rt; ended.status, Status::Good);
+            assert_eq!(rt; ended.sink.written(), image(alloc, output)?.as_slice());
+            assert!(rt; ended.notes.written().is_empty());
+        }
     }
     Ok(())
 }
@@ -104,7 +147,7 @@ fn compact_refuses_what_is_no_image(rt: HostRuntime) -> Result<(), Fail> {
         value: 0,
     };
     for bytes in cases {
-        let ended = compacted(&rt, alloc, bytes, None, None)?;
+        let ended = Attempt::new(&["compact"], &bytes).ended(&rt, alloc)?;
         assert_eq!(rt; ended.status, Status::Image(fault));
         assert!(rt; ended.sink.written().is_empty());
         assert_eq!(rt;
@@ -118,7 +161,11 @@ fn compact_refuses_what_is_no_image(rt: HostRuntime) -> Result<(), Fail> {
 #[test]
 fn a_failed_write_leaves_a_prefix_and_a_note(rt: HostRuntime) -> Result<(), Fail> {
     let alloc = rt.alloc();
-    let ended = compacted(&rt, alloc, image(alloc, &FIVE_WORDS)?, None, Some(1))?;
+    let bytes = image(alloc, &FIVE_WORDS)?;
+    let mut attempt = Attempt::new(&["compact"], &bytes);
+    attempt.room = 100;
+    attempt.failing_write = Some(1);
+    let ended = attempt.ended(&rt, alloc)?;
     assert_eq!(rt; ended.status, Status::WriteFault);
     let first = image(alloc, &[3, 1])?;
     assert_eq!(rt; ended.sink.written(), first.as_slice());
@@ -129,7 +176,10 @@ fn a_failed_write_leaves_a_prefix_and_a_note(rt: HostRuntime) -> Result<(), Fail
 #[test]
 fn a_failed_read_leaves_a_note(rt: HostRuntime) -> Result<(), Fail> {
     let alloc = rt.alloc();
-    let ended = compacted(&rt, alloc, image(alloc, &FIVE_WORDS)?, Some(0), None)?;
+    let bytes = image(alloc, &FIVE_WORDS)?;
+    let mut attempt = Attempt::new(&["compact"], &bytes);
+    attempt.failing_read = Some(0);
+    let ended = attempt.ended(&rt, alloc)?;
     assert_eq!(rt; ended.status, Status::ReadFault);
     assert!(rt; ended.sink.written().is_empty());
     assert_eq!(rt; ended.notes.written(), b"read fault\n".as_slice());
@@ -139,35 +189,60 @@ fn a_failed_read_leaves_a_note(rt: HostRuntime) -> Result<(), Fail> {
 #[test]
 fn other_words_are_refused_and_nothing_is_read(rt: HostRuntime) -> Result<(), Fail> {
     let alloc = rt.alloc();
-    let cases: [&[&str]; 5] = [
-        &["compact", "extra"],
+    let bytes = image(alloc, &FIVE_WORDS)?;
+    let cases: [&[&str]; 19] = [
         &[],
         &["--help"],
         &["schedul"],
         &["trial", "1"],
+        &["schedule", "--workers", "2"],
+        &["compact", "extra"],
+        &["compact", "--workers"],
+        &["compact", "--workers", ""],
+        &["compact", "--workers", "0"],
+        &["compact", "--workers", "02"],
+        &["compact", "--workers", "17"],
+        &["compact", "--workers", "4294967297"],
+        &["compact", "--workers=2"],
+        &["compact", "--blocks", "2"],
+        &["compact", "--blocks", "2", "--workers", "2"],
+        &["compact", "--workers", "2", "--blocks", "0"],
+        &["compact", "--workers", "2", "--blocks", "16385"],
+        &["compact", "--workers", "2", "--workers", "2"],
+        &["compact", "--workers", "2", "--blocks", "2", "extra"],
     ];
-    for case in cases {
-        let mut words = Vec::new(alloc);
-        for word in case {
-            words.push(String::from_str(alloc, word)?)?;
-        }
-        let bytes = image(alloc, &FIVE_WORDS)?;
-        let mut source = MemSource::new(bytes, Vec::new(alloc), 1000);
-        let mut sink = MemSink::new(alloc, 100, Vec::new(alloc), 24)?;
-        let mut notes = MemSink::new(alloc, 100, Vec::new(alloc), 7)?;
-        let status = run(
-            &rt,
-            alloc,
-            &words,
-            &mut source,
-            &mut sink,
-            &mut notes,
-            &OpenGate,
-        );
-        assert_eq!(rt; status, Status::Words);
-        assert_eq!(rt; source.left().len(), 72);
-        assert!(rt; sink.written().is_empty());
-        assert_eq!(rt; notes.written(), b"words\n".as_slice());
+    for words in cases {
+        let ended = Attempt::new(words, &bytes).ended(&rt, alloc)?;
+        assert_eq!(rt; ended.status, Status::Words);
+        assert_eq!(rt; ended.source.left().len(), 72);
+        assert!(rt; ended.sink.written().is_empty());
+        assert_eq!(rt; ended.notes.written(), b"words\n".as_slice());
+    }
+    Ok(())
+}
+
+#[test]
+fn the_words_tell_the_crew(rt: HostRuntime) -> Result<(), Fail> {
+    let alloc = rt.alloc();
+    let cases: [(&[&str], u32, u32); 4] = [
+        (&["compact"], 1, 64),
+        (&["compact", "--workers", "3"], 3, 64),
+        (&["compact", "--workers", "16", "--blocks", "1"], 16, 1),
+        (
+            &["compact", "--workers", "1", "--blocks", "16384"],
+            1,
+            16384,
+        ),
+    ];
+    for (words, workers, blocks) in cases {
+        let crew = Crew {
+            workers,
+            blocks,
+            layout: Layout::Split,
+            draws: 1 << 48,
+        };
+        let named = named_command(&spelled(alloc, words)?);
+        assert_eq!(rt; named, Some(Command::Compact(crew)));
     }
     Ok(())
 }
@@ -196,31 +271,24 @@ fn each_status_has_its_number(rt: HostRuntime) -> Result<(), Fail> {
     Ok(())
 }
 
-/// Runs `schedule` on a text, by its words and by its own call: how each ended, and what the first
-/// wrote to the sink and to the notes.
+/// Runs `schedule` on a text, by its words and by its own call: how both ended.
 fn scheduled<R: Threads + Wait + Sync>(
     rt: &R,
     alloc: Global,
     text: &[u8],
-) -> Result<(Status, Status, MemSink, MemSink), AllocError> {
-    let words = [String::from_str(alloc, "schedule")?];
-    let mut source = MemSource::new(Vec::from_slice(alloc, text)?, Vec::new(alloc), 1000000);
-    let mut sink = MemSink::new(alloc, 1000, Vec::new(alloc), 1000)?;
-    let mut notes = MemSink::new(alloc, 100, Vec::new(alloc), 100)?;
-    let status = run(
-        rt,
-        alloc,
-        &words,
-        &mut source,
-        &mut sink,
-        &mut notes,
-        &OpenGate,
-    );
-    let mut source = MemSource::new(Vec::from_slice(alloc, text)?, Vec::new(alloc), 1000000);
-    let mut other_sink = MemSink::new(alloc, 1000, Vec::new(alloc), 1000)?;
-    let mut other_notes = MemSink::new(alloc, 100, Vec::new(alloc), 100)?;
-    let other = schedule_run(alloc, &mut source, &mut other_sink, &mut other_notes);
-    Ok((status, other, sink, notes))
+) -> Result<(Ended, Ended), AllocError> {
+    let by_words = Attempt::new(&["schedule"], text).ended(rt, alloc)?;
+    let mut source = MemSource::new(Vec::from_slice(alloc, text)?, Vec::new(alloc), 1000);
+    let mut sink = MemSink::new(alloc, 1000, Vec::new(alloc), 24)?;
+    let mut notes = MemSink::new(alloc, 100, Vec::new(alloc), 7)?;
+    let status = schedule_run(alloc, &mut source, &mut sink, &mut notes);
+    let by_call = Ended {
+        status,
+        sink,
+        notes,
+        source,
+    };
+    Ok((by_words, by_call))
 }
 
 #[test]
@@ -249,11 +317,12 @@ fn schedule_prints_the_run(rt: HostRuntime) -> Result<(), Fail> {
         ),
     ];
     for (text, output) in cases {
-        let (status, other, sink, notes) = scheduled(&rt, alloc, text.as_bytes())?;
-        assert_eq!(rt; status, Status::Good);
-        assert_eq!(rt; other, Status::Good);
-        assert_eq!(rt; sink.written(), output.as_bytes());
-        assert!(rt; notes.written().is_empty());
+        let (by_words, by_call) = scheduled(&rt, alloc, text.as_bytes())?;
+        for ended in [by_words, by_call] {
+            assert_eq!(rt; ended.status, Status::Good);
+            assert_eq!(rt; ended.sink.written(), output.as_bytes());
+            assert!(rt; ended.notes.written().is_empty());
+        }
     }
     Ok(())
 }
@@ -277,33 +346,14 @@ fn schedule_refuses_texts_and_acts(rt: HostRuntime) -> Result<(), Fail> {
         (long.as_slice(), Status::TooLong, "text too long\n"),
     ];
     for (text, refusal, note) in cases {
-        let (status, other, sink, notes) = scheduled(&rt, alloc, text)?;
-        assert_eq!(rt; status, refusal);
-        assert_eq!(rt; other, refusal);
-        assert!(rt; sink.written().is_empty());
-        assert_eq!(rt; notes.written(), note.as_bytes());
+        let (by_words, by_call) = scheduled(&rt, alloc, text)?;
+        for ended in [by_words, by_call] {
+            assert_eq!(rt; ended.status, refusal);
+            assert!(rt; ended.sink.written().is_empty());
+            assert_eq!(rt; ended.notes.written(), note.as_bytes());
+        }
     }
     Ok(())
-}
-
-/// Runs `trial` on a text, under a gate.
-fn tried<R: Threads + Wait + Sync, G: Gate + Sync>(
-    rt: &R,
-    alloc: Global,
-    text: &[u8],
-    gate: &G,
-) -> Result<Ended, AllocError> {
-    let words = [String::from_str(alloc, "trial")?];
-    let mut source = MemSource::new(Vec::from_slice(alloc, text)?, Vec::new(alloc), 1000000);
-    let mut sink = MemSink::new(alloc, 1000, Vec::new(alloc), 1000)?;
-    let mut notes = MemSink::new(alloc, 100, Vec::new(alloc), 100)?;
-    let status = run(rt, alloc, &words, &mut source, &mut sink, &mut notes, gate);
-    Ok(Ended {
-        status,
-        sink,
-        notes,
-        source,
-    })
 }
 
 #[test]
@@ -325,7 +375,7 @@ fn trial_prints_what_its_callers_did(rt: HostRuntime) -> Result<(), Fail> {
         (idle, "caller 0 answered 0 of 0\nstack\nqueue\n"),
     ];
     for (text, output) in cases {
-        let ended = tried(&rt, alloc, text.as_bytes(), &OpenGate)?;
+        let ended = Attempt::new(&["trial"], text.as_bytes()).ended(&rt, alloc)?;
         assert_eq!(rt; ended.status, Status::Good);
         assert_eq!(rt; ended.sink.written(), output.as_bytes());
         assert!(rt; ended.notes.written().is_empty());
@@ -352,7 +402,7 @@ fn trial_refuses_texts(rt: HostRuntime) -> Result<(), Fail> {
         (long.as_slice(), Status::TooLong, "text too long\n"),
     ];
     for (text, refusal, note) in cases {
-        let ended = tried(&rt, alloc, text, &OpenGate)?;
+        let ended = Attempt::new(&["trial"], text).ended(&rt, alloc)?;
         assert_eq!(rt; ended.status, refusal);
         assert!(rt; ended.sink.written().is_empty());
         assert_eq!(rt; ended.notes.written(), note.as_bytes());
@@ -360,13 +410,16 @@ fn trial_refuses_texts(rt: HostRuntime) -> Result<(), Fail> {
     Ok(())
 }
 
-/// A gate for two callers. It holds each before its first line until the other has come there.
+/// A gate for two callers or workers. It holds each one's question 0 until the other has asked as many
+/// questions 0.
 #[derive(Drop)]
 struct Meeting {
-    /// How often the callers 0 and 1 asked.
+    /// How often 0 and 1 asked question 0.
     first: AtomicU64,
     second: AtomicU64,
-    /// How many callers gave up waiting.
+    /// How many questions were asked.
+    asked: AtomicU64,
+    /// How many of them gave up waiting.
     missed: AtomicU64,
 }
 
@@ -375,33 +428,42 @@ impl Meeting {
         Meeting {
             first: AtomicU64::new(0),
             second: AtomicU64::new(0),
+            asked: AtomicU64::new(0),
             missed: AtomicU64::new(0),
         }
     }
 
-    /// Returns once the other caller has asked, or after so many turns, which it counts.
-    fn wait_for(&self, other: &AtomicU64) {
+    /// Returns once the other has come to this round, or after so many turns, which it counts.
+    fn wait_for(&self, other: &AtomicU64, round: u64) {
         let backoff = Backoff::new();
         for _ in 0..10_000_000 {
-            if other.load(Ordering::SeqCst) > 0 {
+            if other.load(Ordering::SeqCst) >= round {
                 return;
             }
             backoff.snooze();
         }
         self.missed.fetch_add(1, Ordering::SeqCst);
     }
+
+    /// Fails unless nobody gave up waiting, and both asked question 0 so many times.
+    fn met<R: Abort>(&self, rt: &R, rounds: u64) {
+        assert_eq!(rt; self.missed.load(Ordering::SeqCst), 0);
+        assert_eq!(rt; self.first.load(Ordering::SeqCst), rounds);
+        assert_eq!(rt; self.second.load(Ordering::SeqCst), rounds);
+    }
 }
 
 impl Gate for Meeting {
     fn ask(&self, worker: u32, take: u64) {
-        let (mine, other) = if worker == 0 {
-            (&self.first, &self.second)
-        } else {
-            (&self.second, &self.first)
-        };
-        mine.fetch_add(1, Ordering::SeqCst);
+        self.asked.fetch_add(1, Ordering::SeqCst);
         if take == 0 {
-            self.wait_for(other);
+            let (mine, other) = if worker == 0 {
+                (&self.first, &self.second)
+            } else {
+                (&self.second, &self.first)
+            };
+            let before = mine.fetch_add(1, Ordering::SeqCst);
+            self.wait_for(other, before.saturating_add(1));
         }
     }
 }
@@ -417,13 +479,30 @@ fn callers_are_under_way_together(rt: HostRuntime) -> Result<(), Fail> {
     let text =
         b"trial 1\nlayout split\nblocks 1\ndraws 100\ncaller\npush 1\npush 2\ncaller\npush 1\npush 2\n";
     let gate = Meeting::new();
-    let ended = tried(&rt, alloc, text, &gate)?;
+    let ended = Attempt::new(&["trial"], text).under(&rt, alloc, &gate)?;
     assert_eq!(rt; ended.status, Status::Good);
-    assert_eq!(rt; gate.missed.load(Ordering::SeqCst), 0);
-    assert_eq!(rt; gate.first.load(Ordering::SeqCst), 2);
-    assert_eq!(rt; gate.second.load(Ordering::SeqCst), 2);
+    gate.met(&rt, 1);
+    assert_eq!(rt; gate.asked.load(Ordering::SeqCst), 4);
     assert!(rt; has_line(ended.sink.written(), b"caller 0 answered 2 of 2"));
     assert!(rt; has_line(ended.sink.written(), b"caller 1 answered 2 of 2"));
+    Ok(())
+}
+
+#[test]
+fn workers_are_under_way_together(rt: HostRuntime) -> Result<(), Fail> {
+    let alloc = rt.alloc();
+    let bytes = write_image(alloc, &make_image(alloc, 100_000, 1)?)?;
+    let mut alone = Attempt::new(&["compact"], &bytes);
+    alone.room = bytes.len();
+    let mut together = Attempt::new(&["compact", "--workers", "2"], &bytes);
+    together.room = bytes.len();
+    let gate = Meeting::new();
+    let expected = alone.ended(&rt, alloc)?;
+    let ended = together.under(&rt, alloc, &gate)?;
+    gate.met(&rt, 1);
+    assert_eq!(rt; expected.status, Status::Good);
+    assert_eq!(rt; ended.status, Status::Good);
+    assert!(rt; ended.sink.written() == expected.sink.written());
     Ok(())
 }
 
@@ -446,7 +525,7 @@ fn a_caller_asks_nothing_after_it_was_spent(rt: HostRuntime) -> Result<(), Fail>
     let gate = Count {
         asked: AtomicU64::new(0),
     };
-    let ended = tried(&rt, alloc, text, &gate)?;
+    let ended = Attempt::new(&["trial"], text).under(&rt, alloc, &gate)?;
     assert_eq!(rt; ended.status, Status::Good);
     assert_eq!(rt; gate.asked.load(Ordering::SeqCst), 3);
     assert!(rt; has_line(ended.sink.written(), b"caller 0 answered 2 of 4"));

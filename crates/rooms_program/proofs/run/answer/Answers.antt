@@ -1,14 +1,8 @@
-use Rattle.std.proofs.Common.{map, string_bytes, IfSome}
-use Rattle.room_io.specs.Causes.{Rose}
-use Rattle.rooms_program.specs.Runs.{IsAnswered}
-use Rattle.rooms_program.proofs.Naming.{of_named}
+use Rattle.std.proofs.Common.{map, string_bytes}
+use Rattle.rooms_program.proofs.Performing.{told}
 use Rattle.rooms_program.proofs.run.answer.Goals as goal
 
-pub returns-in-Some-clause-complete : goal.returns-in-Some-clause-complete
-returns-in-Some-clause-complete g c =
-    of_named
-    (λ k. IfSome (g.S.Source.left c.args.source.now) (λ input.
-    ¬ Rose (g.S.Source.faults c.args.source.now) (g.S.Source.faults c.perform.new.source)
-    → ¬ Rose (g.K.Sink.faults c.args.sink.now) (g.K.Sink.faults c.perform.new.sink)
-    → IsAnswered k input c.perform.result))
-    (map string_bytes c.args.words.now) c.in-Some.command c.in-Some.ensures c.perform.ensures.complete
+pub returns-in-Some : goal.returns-in-Some
+returns-in-Some g c =
+    told g.S.Source.left g.S.Source.faults g.K.Sink.written g.K.Sink.faults _ _ _ _ _
+    (map string_bytes c.args.words.now) c.in-Some.command c.in-Some.ensures c.perform.ensures
