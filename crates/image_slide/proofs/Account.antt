@@ -9,10 +9,11 @@ use Rattle.atomic_table.proofs.Lists.{at_map}
 use Rattle.room_rule.specs.Use.{IsAt}
 use Rattle.room_rule.proofs.Lists.{of_map}
 use Rattle.work_pool.specs.Standing.{Standing, Handles}
-use Rattle.work_pool.specs.Deeds.{times}
+use Rattle.bay_core.specs.Times.{times}
 use Rattle.work_crew.specs.Crews.{IsNew, AreNew}
 use Rattle.work_crew.specs.Settled.{given_by, done_by, AreSettled}
-use Rattle.work_crew.proofs.Counts.{times-none, times-cons, times-append, times-flat, sum-balance, sum-none, sum-map, same_times}
+use Rattle.bay_core.proofs.Counts.{times-none, times-cons, times-append, times-flat, same_times}
+use Rattle.work_crew.proofs.Counts.{sum-balance, sum-none, sum-map}
 use Rattle.image_core.specs.Heap.{Heap}
 use Rattle.image_slide.specs.Pieces.{pieces_of}
 use Rattle.image_slide.specs.Jobs.{job_of, first_of, end_of, pieces_in, IsLater, Halves, DoesJob}

@@ -1,7 +1,7 @@
 -- A slider by its fields.
 use Rattle.std.specs.Prelude.{◌≡◌, ℕ, ◌+◌, ◌-◌, ◌≤◌, map, length, take, drop, vec_capacity, All}
 use Rattle.std.specs.List.{flat_map}
-use Rattle.work_pool.specs.Deeds.{times}
+use Rattle.bay_core.specs.Times.{times}
 use Rattle.image_slide.specs.Jobs.{pieces_in}
 use Rattle.image_slide.specs.Parts.{IsSlid}
 use Rattle.image_slide.specs.Sliding.{Sliding, pieces_first}

@@ -3,7 +3,7 @@ use Rattle.std.specs.Prelude.{◌≡◌, ℕ, ◌+◌, ◌==◌, if◌then◌els
 use Rattle.std.specs.List.{flat_map, range_with_len}
 use Rattle.room_rule.specs.Use.{IsAt}
 use Rattle.work_pool.specs.Standing.{Standing}
-use Rattle.work_pool.specs.Deeds.{times}
+use Rattle.bay_core.specs.Times.{times}
 use Rattle.work_crew.specs.Crews.{IsNew}
 use Rattle.image_core.specs.Heap.{Heap}
 use Rattle.image_slide.specs.Pieces.{pieces_of}

@@ -2,7 +2,7 @@
 ghost use Rattle.std.specs.Prelude.{◌≡◌, ◌++◌, ℕ, ◌<◌, ◌^◌, [], length, map, All, OnOk, IfOk};
 ghost use Rattle.std.specs.List.{flat_map, range_with_len};
 ghost use Rattle.room_rule.specs.Use.{IsAt};
-ghost use Rattle.work_pool.specs.Deeds.{times};
+ghost use Rattle.bay_core.specs.Times.{times};
 ghost use Rattle.image_core.specs.Live.{MarksLive};
 ghost use Rattle.work_pool.specs.Crews.{IsCrew};
 ghost use Rattle.image_slide.specs.Slide.{slide};

@@ -1,7 +1,7 @@
 //! Pieces put together, in the order of their numbers.
 ghost use Rattle.std.specs.Prelude.{◌≡◌, ℕ, ◌<◌, map, length, vec_len, slice_index_or, All, IfOk};
 ghost use Rattle.std.specs.List.{flat_map, range_with_len};
-ghost use Rattle.work_pool.specs.Deeds.{times};
+ghost use Rattle.bay_core.specs.Times.{times};
 ghost use Rattle.image_core.specs.Heap.{Heap};
 ghost use Rattle.image_slide.specs.Slide.{kept};
 ghost use Rattle.image_slide.specs.Table.{moved_by};

@@ -6,8 +6,8 @@ use Rattle.std.proofs.lemmas.List.Concat.{flat_map-append}
 use Rattle.std.proofs.lemmas.List.Elements.{All-same, All-append}
 use Rattle.atomic_table.proofs.Lists.{at_longer, at_last, at_snoc}
 use Rattle.room_rule.specs.Use.{IsAt}
-use Rattle.work_pool.specs.Deeds.{times}
-use Rattle.work_crew.proofs.Counts.{times-none, times-append}
+use Rattle.bay_core.specs.Times.{times}
+use Rattle.bay_core.proofs.Counts.{times-none, times-append}
 use Rattle.image_slide.specs.Parts.{IsSlid}
 use Rattle.image_slide.specs.Sliding.{Sliding, Accounts}
 use Rattle.image_slide.specs.declared.pieces.Part.{Part}

@@ -1,7 +1,7 @@
 use Rattle.std.proofs.Common.{◌≡◌, ◌+◌, ◌⊎◌, ℕ, map, length}
 use Rattle.std.specs.List.{All, flat_map}
 use Rattle.room_rule.specs.Use.{IsAt}
-use Rattle.work_pool.specs.Deeds.{times}
+use Rattle.bay_core.specs.Times.{times}
 use Rattle.image_slide.specs.Parts.{IsSlid}
 use Rattle.image_slide.specs.Sliding.{Sliding, IsOf, Accounts}
 use Rattle.image_slide.proofs.crew.gathered.Given as goal

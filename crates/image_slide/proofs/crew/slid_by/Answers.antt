@@ -1,7 +1,7 @@
 use Rattle.std.proofs.Common.{◌≡◌, ℕ, length, map, ap, ◌∙◌, arith}
 use Rattle.std.specs.List.{flat_map}
-use Rattle.work_pool.specs.Deeds.{times}
-use Rattle.work_crew.proofs.Counts.{times-append}
+use Rattle.bay_core.specs.Times.{times}
+use Rattle.bay_core.proofs.Counts.{times-append}
 use Rattle.image_slide.specs.Jobs.{pieces_in}
 use Rattle.image_slide.proofs.Account.{sliders_new, is_of, all_once}
 use Rattle.image_slide.proofs.crew.slid_by.Goals as goal

@@ -1,7 +1,7 @@
 use Rattle.std.proofs.Common.{◌≡◌, ℕ, List, sym, ap, ◌∙◌, map, take, length}
 use Rattle.std.specs.List.{flat_map, range_with_len}
 use Rattle.std.proofs.lemmas.List.{take_all}
-use Rattle.work_pool.specs.Deeds.{times}
+use Rattle.bay_core.specs.Times.{times}
 use Rattle.work_crew.proofs.Counts.{flat-map}
 use Rattle.image_slide.specs.Table.{moved_by}
 use Rattle.image_slide.specs.Pieces.{pieces_of, piece_by}
