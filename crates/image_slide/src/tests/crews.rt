@@ -2,21 +2,28 @@
 ghost use Rattle.std.specs.Prelude.{◌≤◌, ◌^◌};
 ghost use Rattle.work_pool.specs.Crews.{IsCrew};
 
-use crate::{mark_one, slide_one, slide_with};
+use crate::crew::moved_with;
+use crate::slide::moved_one;
+use crate::{slide_one, slide_with};
 use bay_core::Layout;
-use image_core::{Image, ReadImage};
+use crossbeam_utils::Backoff;
+use image_core::Image;
+use image_reader::make_image;
 use std::alloc::{AllocError, Global};
 use std::process::Abort;
 use std::sync::Wait;
 use std::sync::atomic::{AtomicU64, Ordering};
 use std::test::Fail;
-use std::thread;
 use std::thread::Threads;
-use work_crew::Crew;
-use work_pool::{Gate, OpenGate};
+use work_pool::{Crew, Gate, OpenGate};
 
-// A crew with enough draws.
-fn crew_of(workers: u32, blocks: u32, draws: u64) -> Crew {
+// A crew of so many workers over so many blocks.
+fn crew_of(workers: u32, blocks: u32, draws: u64) -> Crew
+    requires workers { (1 ≤ workers) × (workers ≤ 16) }
+    requires blocks { (1 ≤ blocks) × (blocks ≤ 16384) }
+    requires draws { (1 ≤ draws) × (draws ≤ 2 ^ 48) }
+    ensures { IsCrew result }
+{
     Crew {
         workers,
         blocks,
@@ -25,25 +32,17 @@ fn crew_of(workers: u32, blocks: u32, draws: u64) -> Crew {
     }
 }
 
-// An image of so many objects in a row, of which a root names the first, and each the one after the
-// next: so each second one is live.
-fn row_of(alloc: Global, objects: u64) -> Result<Image, ReadImage>
-    requires { objects ≤ 2 ^ 20 }
-{
-    let mut words = Vec::new(alloc);
+// Marks by which each third object goes.
+fn two_of_three(alloc: Global, objects: u32) -> Result<Vec<bool>, AllocError> {
+    let mut marks = Vec::new(alloc);
     for object in 0..objects {
-        let next = object + 2;
-        words.push(1)?;
-        words.push(if next < objects { 1 + 2 * next } else { 0 })?;
+        marks.push(object % 3 != 0)?;
     }
-    if words.len() > 1 << 22 {
-        return Err(ReadImage::Memory);
-    }
-    Image::lawful(alloc, words, vec![in alloc; 1u64]?)
+    Ok(marks)
 }
 
-// Slides an image with a crew, and compares what comes with the slide by one thread.
-fn slides_alike<R: Threads + Wait + Sync + Abort, G: Gate + Sync>(
+// Moves marked objects by a crew, and compares what comes with what one thread makes of them.
+fn moves_alike<R: Threads + Wait + Sync + Abort, G: Gate + Sync>(
     rt: &R,
     alloc: Global,
     image: &Image,
@@ -52,33 +51,34 @@ fn slides_alike<R: Threads + Wait + Sync + Abort, G: Gate + Sync>(
 ) -> Result<(), AllocError>
     requires { IsCrew crew }
 {
-    let live = mark_one(alloc, image)?;
-    let one = slide_one(alloc, image, &live)?;
-    let slid = slide_with(rt, alloc, image, &live, &crew, gate)?;
-    assert!(rt; slid.words() == one.words());
-    assert!(rt; slid.roots() == one.roots());
-    assert!(rt; slid.heads() == one.heads());
+    let marks = two_of_three(alloc, image.objects())?;
+    let one = moved_one(alloc, image, &marks)?;
+    let moved = moved_with(rt, alloc, image, &marks, &crew, gate)?;
+    assert!(rt; moved.words == one.words);
+    assert!(rt; moved.roots == one.roots);
+    assert!(rt; moved.heads == one.heads);
+    assert!(rt; moved.numbers == one.numbers);
     Ok(())
 }
 
 #[test]
-fn every_crew_slides_as_one_thread_does(rt: HostRuntime) -> Result<(), Fail> {
+fn every_crew_moves_what_one_thread_moves(rt: HostRuntime) -> Result<(), Fail> {
     let alloc = rt.alloc();
-    let image = row_of(alloc, 100_000)?;
-    slides_alike(&rt, alloc, &image, crew_of(1, 1, 1 << 24), &OpenGate)?;
-    slides_alike(&rt, alloc, &image, crew_of(1, 64, 1 << 24), &OpenGate)?;
-    slides_alike(&rt, alloc, &image, crew_of(4, 1, 1 << 24), &OpenGate)?;
-    slides_alike(&rt, alloc, &image, crew_of(4, 64, 1 << 24), &OpenGate)?;
+    let image = make_image(alloc, 100_000, 1)?;
+    moves_alike(&rt, alloc, &image, crew_of(1, 1, 1 << 24), &OpenGate)?;
+    moves_alike(&rt, alloc, &image, crew_of(1, 64, 1 << 24), &OpenGate)?;
+    moves_alike(&rt, alloc, &image, crew_of(4, 1, 1 << 24), &OpenGate)?;
+    moves_alike(&rt, alloc, &image, crew_of(4, 64, 1 << 24), &OpenGate)?;
     Ok(())
 }
 
 #[test]
-fn spent_passes_leave_pieces_that_are_slid_all_the_same(rt: HostRuntime) -> Result<(), Fail> {
+fn spent_passes_leave_pieces_that_are_moved_all_the_same(rt: HostRuntime) -> Result<(), Fail> {
     let alloc = rt.alloc();
-    let image = row_of(alloc, 2000)?;
-    slides_alike(&rt, alloc, &image, crew_of(4, 2, 1), &OpenGate)?;
-    slides_alike(&rt, alloc, &image, crew_of(4, 2, 2), &OpenGate)?;
-    slides_alike(&rt, alloc, &image, crew_of(16, 1, 5), &OpenGate)?;
+    let image = make_image(alloc, 2000, 3)?;
+    moves_alike(&rt, alloc, &image, crew_of(4, 2, 1), &OpenGate)?;
+    moves_alike(&rt, alloc, &image, crew_of(4, 2, 2), &OpenGate)?;
+    moves_alike(&rt, alloc, &image, crew_of(16, 1, 5), &OpenGate)?;
     Ok(())
 }
 
@@ -86,25 +86,24 @@ fn spent_passes_leave_pieces_that_are_slid_all_the_same(rt: HostRuntime) -> Resu
 fn an_image_without_objects_keeps_its_null_roots(rt: HostRuntime) -> Result<(), Fail> {
     let alloc = rt.alloc();
     let roots = vec![in alloc; 0u64, 0]?;
-    match Image::lawful(alloc, Vec::new(alloc), roots) {
-        Ok(image) => {
-            let live = mark_one(alloc, &image)?;
-            let slid = slide_with(&rt, alloc, &image, &live, &crew_of(2, 64, 1 << 24), &OpenGate)?;
-            assert!(rt; slid.words().is_empty());
-            assert_eq!(rt; slid.roots(), [0, 0].as_slice());
-        }
-        Err(_) => assert!(rt; false),
-    }
+    let image = Image::lawful(alloc, Vec::new(alloc), roots)?;
+    assert_eq!(rt; image.objects(), 0);
+    let one = slide_one(alloc, &image, &[])?;
+    assert!(rt; one.words().is_empty());
+    assert_eq!(rt; one.roots(), [0, 0].as_slice());
+    let crew = crew_of(2, 64, 1 << 24);
+    let slid = slide_with(&rt, alloc, &image, &[], &crew, &OpenGate)?;
+    assert!(rt; slid.words().is_empty());
+    assert_eq!(rt; slid.roots(), [0, 0].as_slice());
     Ok(())
 }
 
-// A gate for two workers. It holds each before its first question until the other has come there.
+// A gate that holds each of two workers at its question 0 until the other one has asked, and counts
+// how often that did not come.
 #[derive(Drop)]
 struct Meeting {
-    // How often the workers 0 and 1 asked.
     first: AtomicU64,
     second: AtomicU64,
-    // How many workers gave up waiting.
     missed: AtomicU64,
 }
 
@@ -119,11 +118,12 @@ impl Meeting {
 
     // Returns once the other worker has asked, or after so many turns, which it counts.
     fn wait_for(&self, other: &AtomicU64) {
+        let backoff = Backoff::new();
         for _ in 0..10_000_000 {
             if other.load(Ordering::SeqCst) > 0 {
                 return;
             }
-            thread::yield_now();
+            backoff.snooze();
         }
         self.missed.fetch_add(1, Ordering::SeqCst);
     }
@@ -144,11 +144,11 @@ impl Gate for Meeting {
 }
 
 #[test]
-fn two_workers_slide_at_the_same_time(rt: HostRuntime) -> Result<(), Fail> {
+fn two_workers_are_under_way_together(rt: HostRuntime) -> Result<(), Fail> {
     let alloc = rt.alloc();
-    let image = row_of(alloc, 100_000)?;
+    let image = make_image(alloc, 100_000, 1)?;
     let gate = Meeting::new();
-    slides_alike(&rt, alloc, &image, crew_of(2, 64, 1 << 24), &gate)?;
+    moves_alike(&rt, alloc, &image, crew_of(2, 64, 1 << 24), &gate)?;
     assert_eq!(rt; gate.missed.load(Ordering::SeqCst), 0);
     assert!(rt; gate.first.load(Ordering::SeqCst) > 0);
     assert!(rt; gate.second.load(Ordering::SeqCst) > 0);
