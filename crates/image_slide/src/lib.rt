@@ -1,10 +1,18 @@
-//! Marking and sliding an image on one thread.
+//! Marking an image on one thread, and sliding it, on one thread or with a crew of workers.
 #![tactic(auto)]
 
-mod mark;
+mod crew;
+mod jobs;
+mod joins;
+mod moves;
+mod pieces;
+mod places;
 mod slide;
+mod sliders;
+mod starts;
 
-pub use mark::mark_one;
+pub use crew::slide_with;
+pub use pieces::slid_in_pieces;
 pub use slide::slide_one;
 
 #[cfg(test)]
