@@ -1,11 +1,11 @@
 -- Words that fail a test, and the first reference word that does.
-use Rattle.std.proofs.Common.{◌≡◌, ℕ, zero, suc, ◌+◌, ◌-◌, ◌<◌, ◌≤◌, ◌^◌, List, inl, inr, refl, sym, ap, subst, ◌∙◌, arith, get_or, length, drop}
+use Rattle.std.proofs.Common.{◌≡◌, ℕ, ◌+◌, ◌-◌, ◌<◌, List, inl, inr, sym, ap, subst, ◌∙◌, arith, get_or, length, drop}
 use Rattle.std.proofs.lemmas.List.{get_or_default, get_or-take, get_or-drop, length-take, length-drop}
 use Rattle.std.proofs.lemmas.Bool.{cases_lt}
-use Rattle.std.specs.List.{Contains, All}
-use Rattle.image_core.specs.Object.{refs_at, size_at, references_at, Fits}
+use Rattle.std.specs.List.{All}
+use Rattle.image_core.specs.Object.{refs_at, references_at, Fits}
 use Rattle.image_core.specs.Heap.{Fill, Names, EachReferenceNames}
-use Rattle.image_core.specs.Fault.{overrun, too_many_objects, bad_reference, bad_root, Overruns, IsReference, IsFirstUnnamed, IsBadReference, HasFault}
+use Rattle.image_core.specs.Fault.{IsReference, IsFirstUnnamed, IsBadReference}
 use Rattle.image_core.proofs.Standing.{Fill-fits, Stand-order}
 
 -- the reference words are as many as the header says
@@ -62,19 +62,3 @@ module _ (words heads : List ℕ) (fill : Fill words heads) where
       → Names heads (get_or (references_at words (get_or heads object 0)) k 0)
   Names-reference each object k within below =
       each object 0 within k 0 (omega (arith, length-references words (get_or heads object 0) (Fill-fits words heads fill object within)))
-
--- the test that fails, by what the walk and the look-ups found
-module _ (words roots : List ℕ) where
-  pub fault_of_overrun : (place : ℕ) → Overruns words place → HasFault words roots
-  fault_of_overrun place over = (overrun, place, get_or words place 0, (over, refl))
-
-  pub fault_of_many : (heads : List ℕ) → Fill words heads → 2 ^ 20 < length heads → HasFault words roots
-  fault_of_many heads fill many =
-      (too_many_objects, get_or heads (2 ^ 20) 0, get_or words (get_or heads (2 ^ 20) 0) 0, (heads, fill, many, refl, refl))
-
-  pub fault_of_reference : (heads : List ℕ) (place : ℕ) → Fill words heads → length heads ≤ 2 ^ 20 → IsBadReference words heads place → HasFault words roots
-  fault_of_reference heads place fill few bad = (bad_reference, place, get_or words place 0, (heads, fill, few, bad, refl))
-
-  pub fault_of_root : (heads : List ℕ) (place : ℕ) → Fill words heads → length heads ≤ 2 ^ 20 → EachReferenceNames words heads
-      → IsFirstUnnamed roots heads place → HasFault words roots
-  fault_of_root heads place fill few each bad = (bad_root, place, get_or roots place 0, (heads, fill, few, each, bad, refl))

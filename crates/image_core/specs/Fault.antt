@@ -1,23 +1,12 @@
 -- Which test of an image fails first, at which place, and with which value there.
-use Rattle.std.specs.Prelude.{◌≡◌, ℕ, ◌+◌, ◌^◌, ◌<◌, ◌≤◌, List, length, slice_index, Contains}
+use Rattle.std.specs.Prelude.{◌≡◌, ℕ, ◌+◌, ◌^◌, ◌<◌, ◌≤◌, ◌⊎◌, List, length, slice_index, Contains}
 use Rattle.image_core.specs.Object.{size_at, refs_at}
 use Rattle.image_core.specs.Heap.{Stand, Fill, Names, EachReferenceNames}
 use Rattle.image_core.specs.declared.fault.ImageFault.{ImageFault}
-use Rattle.image_core.specs.declared.fault.ImageKind.TheVariants.{Other}
+use Rattle.image_core.specs.declared.fault.ImageKind.{ImageKind}
+use Rattle.image_core.specs.declared.fault.ImageKind.TheVariants.{Short, Magic, TooManyWords, TooManyRoots, Long, Overrun, TooManyObjects, BadRef, BadRoot}
 use Rattle.image_core.specs.declared.fault.ReadImage.{ReadImage}
 use Rattle.image_core.specs.declared.fault.ReadImage.TheVariants.{Fault, Memory}
-
--- the kinds of fault, in the order of their tests
-pub data FaultKind : Type 0 where
-  short : FaultKind
-  magic : FaultKind
-  too_many_words : FaultKind
-  too_many_roots : FaultKind
-  long : FaultKind
-  overrun : FaultKind
-  too_many_objects : FaultKind
-  bad_reference : FaultKind
-  bad_root : FaultKind
 
 -- walking from word 0, the object whose header stands here ends past the last word
 abbrev pub Overruns : List ℕ → ℕ → Type 0
@@ -43,32 +32,32 @@ pub record IsFirstUnnamed (words heads : List ℕ) (place : ℕ) : Type 0 where
   pub first : (earlier : ℕ) → earlier < place → Names heads (slice_index words earlier)
 
 -- the test of this kind is the first that fails on words and roots; the first five kinds are of bytes alone
-abbrev pub WordsFail : List ℕ → List ℕ → FaultKind → ℕ → ℕ → Type 0
-WordsFail words roots overrun place value = Overruns words place × (value ≡ slice_index words place)
-WordsFail words roots too_many_objects place value =
+abbrev pub WordsFail : List ℕ → List ℕ → ImageKind → ℕ → ℕ → Type 0
+WordsFail words roots Overrun place value = Overruns words place × (value ≡ slice_index words place)
+WordsFail words roots TooManyObjects place value =
     (heads : List ℕ) × Fill words heads × (2 ^ 20 < length heads)
     × (place ≡ slice_index heads (2 ^ 20)) × (value ≡ slice_index words place)
-WordsFail words roots bad_reference place value =
+WordsFail words roots BadRef place value =
     (heads : List ℕ) × Fill words heads × (length heads ≤ 2 ^ 20)
     × IsBadReference words heads place × (value ≡ slice_index words place)
-WordsFail words roots bad_root place value =
+WordsFail words roots BadRoot place value =
     (heads : List ℕ) × Fill words heads × (length heads ≤ 2 ^ 20) × EachReferenceNames words heads
     × IsFirstUnnamed roots heads place × (value ≡ slice_index roots place)
-WordsFail words roots short place value = ⊥
-WordsFail words roots magic place value = ⊥
-WordsFail words roots too_many_words place value = ⊥
-WordsFail words roots too_many_roots place value = ⊥
-WordsFail words roots long place value = ⊥
+WordsFail words roots Short place value = ⊥
+WordsFail words roots Magic place value = ⊥
+WordsFail words roots TooManyWords place value = ⊥
+WordsFail words roots TooManyRoots place value = ⊥
+WordsFail words roots Long place value = ⊥
 
--- some test fails on words and roots
-abbrev pub HasFault : List ℕ → List ℕ → Type 0
-HasFault words roots = (kind : FaultKind) × (place : ℕ) × (value : ℕ) × WordsFail words roots kind place value
+-- the fault of words and roots that are no image
+abbrev pub HasFault : List ℕ → List ℕ → ImageFault → Type 0
+HasFault words roots fault = WordsFail words roots fault.kind fault.place fault.value
 
--- the fault that tells no more than that a test failed
-abbrev pub other : ImageFault
-other = record { kind = Other; place = 0; value = 0 }
-
--- a refusal is want of memory, or it is that fault, and then this holds
-abbrev pub OnFault : ReadImage → Type 0 → Type 0
+-- a refusal is want of memory, or it is a fault of which this holds
+abbrev pub OnFault : ReadImage → (ImageFault → Type 0) → Type 0
 OnFault Memory P = Unit {0}
-OnFault (Fault fault) P = (fault ≡ other) × P
+OnFault (Fault fault) P = P fault
+
+-- a refusal is want of memory, or it tells this fault
+abbrev pub Tells : ImageFault → ReadImage → Type 0
+Tells fault refusal = (refusal ≡ Memory) ⊎ (refusal ≡ Fault fault)

@@ -1,65 +1,63 @@
-ghost use Rattle.std.specs.Prelude.{◌≡◌, ℕ, ◌≤◌, ◌^◌, length, All, IfOk, IfSome, IfNone};
-ghost use Rattle.std.specs.Bool.{OnTrue, OnFalse};
+ghost use Rattle.std.specs.Prelude.{◌≤◌, ◌^◌, length, All, IfOk, IfErr, IfSome, IfNone};
 ghost use Rattle.image_core.specs.Heap.{IsLawful, Fill, Names, EachReferenceNames};
-ghost use Rattle.image_core.specs.Fault.{HasFault, IsBadReference, IsFirstUnnamed};
+ghost use Rattle.image_core.specs.Fault.{HasFault, OnFault, IsBadReference, IsFirstUnnamed};
 
+use crate::fault::{ImageFault, ImageKind, ReadImage};
 use crate::index::HeaderIndex;
 use crate::object::references;
 use crate::walk::walk;
-use std::alloc::{AllocError, Global};
+use std::alloc::Global;
 
 /// The most objects of an image.
 const MOST_OBJECTS: usize = 1 << 20;
 
-/// The headers of lawful words and roots; none where a test of them fails.
-pub fn headers(
-    alloc: Global,
-    words: &[u64],
-    roots: &[u64],
-) -> Result<Option<HeaderIndex>, AllocError>
+/// The headers of lawful words and roots; else the first test that fails.
+pub fn headers(alloc: Global, words: &[u64], roots: &[u64]) -> Result<HeaderIndex, ReadImage>
     requires words { length words.now ≤ 2 ^ 22 }
     requires roots { length roots.now ≤ 2 ^ 16 }
-    ensures lawful { IfOk result (λ found. IfSome found
-        (λ heads. IsLawful (record { words = words.now; roots = roots.now; heads = heads }))) }
-    ensures fault { IfOk result (λ found. IfNone found (HasFault words.now roots.now)) }
+    ensures lawful { IfOk result
+        (λ heads. IsLawful (record { words = words.now; roots = roots.now; heads = heads })) }
+    ensures fault { IfErr result (λ refusal. OnFault refusal (HasFault words.now roots.now)) }
 {
-    let Some(heads) = walk(alloc, words)? else {
-        return Ok(None);
-    };
+    let heads = walk(alloc, words)?;
     if heads.len() > MOST_OBJECTS {
-        return Ok(None);
+        let place = heads[MOST_OBJECTS] as usize;
+        return Err(ReadImage::Fault(ImageFault::of_word(ImageKind::TooManyObjects, words, place)));
     }
     let index = HeaderIndex::new(alloc, words, heads)?;
-    if references_named(words, &index) && all_named(roots, &index) {
-        Ok(Some(index))
-    } else {
-        Ok(None)
+    if let Some(place) = first_bad_reference(words, &index) {
+        return Err(ReadImage::Fault(ImageFault::of_word(ImageKind::BadRef, words, place)));
     }
+    if let Some(place) = first_unnamed(roots, &index) {
+        return Err(ReadImage::Fault(ImageFault::of_word(ImageKind::BadRoot, roots, place)));
+    }
+    Ok(index)
 }
 
-/// Whether each reference word is 0 or names an object.
-fn references_named(words: &[u64], index: &HeaderIndex) -> bool
+/// The place of the first reference word that is neither 0 nor names an object.
+fn first_bad_reference(words: &[u64], index: &HeaderIndex) -> Option<usize>
     requires { Fill words.now index.now }
-    ensures all { OnTrue result (EachReferenceNames words.now index.now) }
-    ensures bad { OnFalse result ((place : ℕ) × IsBadReference words.now index.now place) }
+    ensures all { IfNone result (EachReferenceNames words.now index.now) }
+    ensures bad { IfSome result (IsBadReference words.now index.now) }
 {
     for head in index.heads() {
-        if !all_named(references(words, *head as usize), index) {
-            return false;
+        let place = *head as usize;
+        if let Some(k) = first_unnamed(references(words, place), index) {
+            return Some(place + 1 + k);
         }
     }
-    true
+    None
 }
 
-/// Whether each of these words is 0 or names an object.
-fn all_named(words: &[u64], index: &HeaderIndex) -> bool
-    ensures all { OnTrue result (All (Names index.now) words.now) }
-    ensures bad { OnFalse result ((place : ℕ) × IsFirstUnnamed words.now index.now place) }
+/// The place of the first of these words that is neither 0 nor names an object.
+fn first_unnamed(words: &[u64], index: &HeaderIndex) -> Option<usize>
+    ensures all { IfNone result (All (Names index.now) words.now) }
+    ensures bad { IfSome result (IsFirstUnnamed words.now index.now) }
 {
-    for word in words {
+    for (place, word) in words.iter().enumerate() {
         if !index.is_name(*word) {
-            return false;
+            return Some(place);
         }
     }
-    true
+    None
 }

@@ -1,13 +1,31 @@
 use std::alloc::{AllocError, AllocFailed};
 
-/// Which test of an image failed.
+/// Which test of an image failed, in the order of the tests. The first five are of bytes alone.
 #[derive(Debug, Clone, Copy, PartialEq, Eq)]
 pub enum ImageKind {
-    /// One of the tests; which one is not told.
-    Other,
+    /// Fewer bytes than a header has, or than the header says. The place is how many there are, the
+    /// value how many there should be.
+    Short,
+    /// The first byte that is not that of the magic, with its place.
+    Magic,
+    /// The header says more heap words than an image may have. The place is 8, the value what it says.
+    TooManyWords,
+    /// The header says more roots than an image may have. The place is 16, the value what it says.
+    TooManyRoots,
+    /// More bytes than the header says: the first of them, with its place.
+    Long,
+    /// An object ends past the last word: its header word, with the number of that word.
+    Overrun,
+    /// More objects than an image may have: the header word of the first that is too many, with the
+    /// number of that word.
+    TooManyObjects,
+    /// The first reference word that is neither 0 nor names an object, with the number of the word.
+    BadRef,
+    /// The first root word that is neither 0 nor names an object, with the number of the root.
+    BadRoot,
 }
 
-/// The first test that failed, where, and the value there. Of `Other` both numbers are 0.
+/// The first test that failed, where, and the value there, as its kind says.
 #[derive(Debug, Clone, Copy, PartialEq, Eq)]
 pub struct ImageFault {
     pub kind: ImageKind,
@@ -18,25 +36,39 @@ pub struct ImageFault {
 /// Why there is no image.
 #[derive(Debug, Drop)]
 pub enum ReadImage {
-    /// The words or bytes are no image.
+    /// The words or bytes are no image; the first test that they fail.
     Fault(ImageFault),
     /// Memory ran out.
     Memory,
 }
 
 impl ImageFault {
-    ghost use Rattle.std.specs.Prelude.{◌≡◌};
-    ghost use Rattle.image_core.specs.Fault.{other};
+    ghost use Rattle.std.specs.Prelude.{◌≡◌, ◌<◌, length, slice_index};
 
-    /// The fault that tells no more than that a test failed.
-    pub fn other() -> ImageFault
-        ensures { result ≡ other }
+    /// A fault of this kind, at a place, with a value.
+    pub fn new(kind: ImageKind, place: u64, value: u64) -> ImageFault
+        ensures { result ≡ record { kind = kind; place = place; value = value } }
     {
-        ImageFault {
-            kind: ImageKind::Other,
-            place: 0,
-            value: 0,
-        }
+        ImageFault { kind, place, value }
+    }
+
+    /// A fault of a word: its place and the word itself.
+    pub(crate) fn of_word(kind: ImageKind, words: &[u64], place: usize) -> ImageFault
+        requires { place < length words.now }
+        ensures { result ≡ record { kind = kind; place = place; value = slice_index words.now place } }
+    {
+        ImageFault::new(kind, place as u64, words[place])
+    }
+}
+
+impl From<ImageFault> for ReadImage {
+    ghost use Rattle.std.specs.Prelude.{◌≡◌};
+    ghost use Rattle.image_core.specs.declared.fault.ReadImage.TheVariants.{Fault};
+
+    ghost from_gives = { λ fault e. e ≡ Fault fault };
+
+    fn from(fault: ImageFault) -> Self {
+        ReadImage::Fault(fault)
     }
 }
 

@@ -1,7 +1,7 @@
 ghost use Rattle.std.specs.Prelude.{◌≡◌, ◌+◌, ◌<◌, ◌≤◌, ◌^◌, length, slice_index, IfOk, IfErr, MatchResult, vec_len};
 
 use crate::check::headers;
-use crate::fault::{ImageFault, ReadImage};
+use crate::fault::ReadImage;
 use crate::index::HeaderIndex;
 use crate::object::{Obj, references};
 use std::alloc::{AllocError, Global};
@@ -28,12 +28,14 @@ impl Model for Image {
 impl Image {
     ghost use Rattle.image_core.specs.Object.{refs_at, references_at};
     ghost use Rattle.image_core.specs.Heap.{Heap, IsLawful, IsHeapOf, head_of};
-    ghost use Rattle.image_core.specs.Fault.{HasFault, OnFault};
+    ghost use Rattle.image_core.specs.Fault.{HasFault, OnFault, Tells};
     ghost use Rattle.image_core.specs.Shape.{object_at, Target};
     ghost use Rattle.image_core.specs.Index.{IsIndex};
+    ghost use Rattle.image_core.specs.declared.fault.ImageFault.{ImageFault};
     ghost use Rattle.image_core.specs.declared.fault.ReadImage.TheVariants.{Memory};
 
-    /// The image of these words and roots. `Fault` where a test of them fails, `Memory` where memory runs out.
+    /// The image of these words and roots. `Fault` where a test of them fails: the first, with the
+    /// number of the word and the word itself. `Memory` where memory runs out.
     pub fn lawful(alloc: Global, words: Vec<u64>, roots: Vec<u64>) -> Result<Image, ReadImage>
         requires words { vec_len words ≤ 2 ^ 22 }
         requires roots { vec_len roots ≤ 2 ^ 16 }
@@ -42,15 +44,16 @@ impl Image {
         // The lawful heap of these words and roots is found, unless memory runs out.
         ensures found { (heap : Heap) → IsHeapOf words.items roots.items heap
             → MatchResult result (λ image. image ≡ heap) (λ refusal. refusal ≡ Memory) }
+        // And so is their fault, which is the only one.
+        ensures told { (fault : ImageFault) → HasFault words.items roots.items fault
+            → MatchResult result (λ _. ⊥) (Tells fault) }
     {
-        match headers(alloc, words.as_slice(), roots.as_slice())? {
-            Some(index) => Ok(Image {
-                words,
-                roots,
-                index,
-            }),
-            None => Err(ReadImage::Fault(ImageFault::other())),
-        }
+        let index = headers(alloc, words.as_slice(), roots.as_slice())?;
+        Ok(Image {
+            words,
+            roots,
+            index,
+        })
     }
 
     /// The image of a heap that is known to be lawful, without a test.

@@ -56,21 +56,20 @@ fn objects_and_what_their_words_name(rt: HostRuntime) -> Result<(), Fail> {
 
 #[test]
 fn words_that_are_no_image_are_refused(rt: HostRuntime) -> Result<(), Fail> {
-    let other = ImageFault {
-        kind: ImageKind::Other,
-        place: 0,
-        value: 0,
-    };
     // An object past the end; a reference to a data word, and past the end; a root of a data word.
-    let cases: [(&[u64], &[u64]); 4] = [
-        (&[1], &[]),
-        (&[65537, 3, 0], &[]),
-        (&[1, 3], &[]),
-        (&WORDS, &[1, 2]),
+    let cases: [(&[u64], &[u64], ImageFault); 4] = [
+        (&[1], &[], ImageFault::new(ImageKind::Overrun, 0, 1)),
+        (
+            &[65537, 3, 0],
+            &[],
+            ImageFault::new(ImageKind::BadRef, 1, 3),
+        ),
+        (&[1, 3], &[], ImageFault::new(ImageKind::BadRef, 1, 3)),
+        (&WORDS, &[1, 2], ImageFault::new(ImageKind::BadRoot, 1, 2)),
     ];
-    for (words, roots) in cases {
+    for (words, roots, wanted) in cases {
         match image_of(rt.alloc(), words, roots) {
-            Err(ReadImage::Fault(fault)) => assert!(rt; fault == other),
+            Err(ReadImage::Fault(fault)) => assert_eq!(rt; fault, wanted),
             _ => return Err(Fail::from("not refused")),
         }
     }

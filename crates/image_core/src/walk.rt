@@ -1,25 +1,27 @@
-ghost use Rattle.std.specs.Prelude.{ℕ, ◌≤◌, ◌^◌, length, IfOk, IfSome, IfNone};
+ghost use Rattle.std.specs.Prelude.{ℕ, ◌≤◌, ◌^◌, List, length, IfOk, IfErr};
 ghost use Rattle.image_core.specs.Heap.{Fill};
-ghost use Rattle.image_core.specs.Fault.{Overruns};
+ghost use Rattle.image_core.specs.Fault.{HasFault, OnFault};
 
+use crate::fault::{ImageFault, ImageKind, ReadImage};
 use crate::header::size;
-use std::alloc::{AllocError, Global};
+use std::alloc::Global;
 
-/// The places of the headers, walking from word 0; none where an object ends past the last word.
-pub fn walk(alloc: Global, words: &[u64]) -> Result<Option<Vec<u32>>, AllocError>
+/// The places of the headers, walking from word 0. `Overrun` where an object ends past the last word,
+/// whatever the roots are.
+pub fn walk(alloc: Global, words: &[u64]) -> Result<Vec<u32>, ReadImage>
     requires { length words.now ≤ 2 ^ 22 }
-    ensures fill { IfOk result (λ found. IfSome found (λ heads. Fill words.now heads.items)) }
-    ensures overrun { IfOk result (λ found. IfNone found ((place : ℕ) × Overruns words.now place)) }
+    ensures fill { IfOk result (λ heads. Fill words.now heads.items) }
+    ensures overrun { (roots : List ℕ) → IfErr result (λ refusal. OnFault refusal (HasFault words.now roots)) }
 {
     let mut heads = Vec::new(alloc);
     let mut at = 0;
     while at < words.len() {
         let size = size(words[at]);
         if size > words.len() - at {
-            return Ok(None);
+            return Err(ReadImage::Fault(ImageFault::of_word(ImageKind::Overrun, words, at)));
         }
         heads.push(at as u32)?;
         at += size;
     }
-    Ok(Some(heads))
+    Ok(heads)
 }

@@ -1,14 +1,18 @@
 -- Bytes are of at most one image, or have a fault, but not both.
-use Rattle.std.proofs.Common.{◌≡◌, ℕ, inl, inr, List, refl, sym, ap, subst, ◌∙◌, arith, get_or, length, Result, Ok, Err}
+use Rattle.std.proofs.Common.{◌≡◌, ℕ, inl, inr, List, refl, sym, ap, subst, ◌∙◌, arith, get_or, Result, Ok, Err}
 use Rattle.std.proofs.lemmas.List.{get_or-take}
 use Rattle.image_core.specs.Heap.{Heap, IsHeapOf}
-use Rattle.image_core.specs.Fault.{FaultKind, short, magic, too_many_words, too_many_roots, long, overrun, too_many_objects, bad_reference, bad_root, WordsFail, HasFault as HasFault-words, OnFault}
+use Rattle.image_core.specs.Fault.{HasFault as HasFault-words, OnFault}
+use Rattle.image_core.specs.declared.fault.ImageFault.{ImageFault}
+use Rattle.image_core.specs.declared.fault.ImageKind.{ImageKind}
+use Rattle.image_core.specs.declared.fault.ImageKind.TheVariants.{Short, Magic, TooManyWords, TooManyRoots, Long, Overrun, TooManyObjects, BadRef, BadRoot}
 use Rattle.image_core.specs.declared.fault.ReadImage.{ReadImage}
 use Rattle.image_core.specs.declared.fault.ReadImage.TheVariants.{Fault, Memory}
 use Rattle.std.specs.Result.{IfErr}
+use Rattle.image_core.specs.Fault.{WordsFail}
 use Rattle.image_core.proofs.Once.{lawful_no_fault, same_heap}
 use Rattle.image_reader.specs.Bytes.{Spells, IsImage}
-use Rattle.image_reader.specs.Fault.{length_said, HasHeader, SpelledFail, BytesFail, HasFault}
+use Rattle.image_reader.specs.Fault.{SpelledFail, BytesFail, HasFault}
 use Rattle.image_reader.proofs.Spelling.{Spells-once}
 use Rattle.image_reader.proofs.Header.{Spells-header}
 
@@ -24,50 +28,49 @@ IsImage-once bytes a b this that =
     same_heap b.words b.roots a b (IsHeapOf-spelled bytes b.words b.roots a that.spells this)
     (record { words_are = refl; roots_are = refl; lawful = that.lawful })
 
-spelled_no_fault : (bytes : List ℕ) (heap : Heap) (kind : FaultKind) (place value : ℕ) → IsImage bytes heap → SpelledFail bytes kind place value → ⊥
-spelled_no_fault bytes heap kind place value image (words, roots, spells, fails) =
-    let same = Spells-once bytes words roots heap.words heap.roots spells image.spells in
-    lawful_no_fault heap kind place value image.lawful
-    (subst (λ ws. WordsFail ws heap.roots kind place value) same.0 (subst (λ rs. WordsFail words rs kind place value) same.1 fails))
+-- words and roots that bytes spell give the bytes their fault
+module _ (bytes words roots : List ℕ) (spells : Spells bytes words roots) where
+  pub fault_of_spelled : (kind : ImageKind) (place value : ℕ) → WordsFail words roots kind place value → BytesFail bytes kind place value
+  fault_of_spelled Overrun place value fails = (words, roots, spells, fails)
+  fault_of_spelled TooManyObjects place value fails = (words, roots, spells, fails)
+  fault_of_spelled BadRef place value fails = (words, roots, spells, fails)
+  fault_of_spelled BadRoot place value fails = (words, roots, spells, fails)
+  fault_of_spelled Short place value fails = absurd fails
+  fault_of_spelled Magic place value fails = absurd fails
+  fault_of_spelled TooManyWords place value fails = absurd fails
+  fault_of_spelled TooManyRoots place value fails = absurd fails
+  fault_of_spelled Long place value fails = absurd fails
 
-bytes_no_fault : (bytes : List ℕ) (heap : Heap) (kind : FaultKind) (place value : ℕ) → IsImage bytes heap
-    → HasHeader bytes → length bytes ≡ length_said bytes → BytesFail bytes kind place value → ⊥
-bytes_no_fault bytes heap short place value image header whole (at, inl fails) = omega (arith, header.begins.long_enough, fails)
-bytes_no_fault bytes heap short place value image header whole (at, inr fails) = omega (arith, fails.1, whole)
-bytes_no_fault bytes heap magic place value image header whole (long_enough, other, is) =
-    other.differs (sym (get_or-take 8 bytes place 0 other.within) ∙ ap (λ z. get_or z place 0) header.begins.magic_there)
-bytes_no_fault bytes heap too_many_words place value image header whole fails = omega (arith, header.few_words, fails.1)
-bytes_no_fault bytes heap too_many_roots place value image header whole fails = omega (arith, header.few_roots, fails.2)
-bytes_no_fault bytes heap long place value image header whole fails = omega (arith, fails.1, whole)
-bytes_no_fault bytes heap overrun place value image header whole fails = spelled_no_fault bytes heap overrun place value image fails
-bytes_no_fault bytes heap too_many_objects place value image header whole fails = spelled_no_fault bytes heap too_many_objects place value image fails
-bytes_no_fault bytes heap bad_reference place value image header whole fails = spelled_no_fault bytes heap bad_reference place value image fails
-bytes_no_fault bytes heap bad_root place value image header whole fails = spelled_no_fault bytes heap bad_root place value image fails
+  pub same_spelled : (kind : ImageKind) (place value : ℕ) → SpelledFail bytes kind place value → WordsFail words roots kind place value
+  same_spelled kind place value (ws, rs, spells_, fails) =
+      let same = Spells-once bytes ws rs words roots spells_ spells in
+      subst (λ zs. WordsFail zs roots kind place value) same.0 (subst (λ zs. WordsFail ws zs kind place value) same.1 fails)
+
+  -- and they have no other fault
+  pub spelled_of_fault : (kind : ImageKind) (place value : ℕ) → BytesFail bytes kind place value → WordsFail words roots kind place value
+  spelled_of_fault Overrun place value fails = same_spelled Overrun place value fails
+  spelled_of_fault TooManyObjects place value fails = same_spelled TooManyObjects place value fails
+  spelled_of_fault BadRef place value fails = same_spelled BadRef place value fails
+  spelled_of_fault BadRoot place value fails = same_spelled BadRoot place value fails
+  spelled_of_fault Short place value (at, inl fails) = absurd (omega (arith, (Spells-header bytes words roots spells).0.begins.long_enough, fails))
+  spelled_of_fault Short place value (at, inr fails) = absurd (omega (arith, fails.1, (Spells-header bytes words roots spells).1))
+  spelled_of_fault Magic place value (long_enough, other, is) =
+      absurd (other.differs (sym (get_or-take 8 bytes place 0 other.within) ∙ ap (λ z. get_or z place 0) (Spells-header bytes words roots spells).0.begins.magic_there))
+  spelled_of_fault TooManyWords place value fails = absurd (omega (arith, (Spells-header bytes words roots spells).0.few_words, fails.1))
+  spelled_of_fault TooManyRoots place value fails = absurd (omega (arith, (Spells-header bytes words roots spells).0.few_roots, fails.2))
+  spelled_of_fault Long place value fails = absurd (omega (arith, fails.1, (Spells-header bytes words roots spells).1))
 
 -- the bytes of an image have no fault
-pub no_fault : (bytes : List ℕ) (heap : Heap) → IsImage bytes heap → HasFault bytes → ⊥
-no_fault bytes heap image (kind, place, value, fails) =
-    let header = Spells-header bytes heap.words heap.roots image.spells in
-    bytes_no_fault bytes heap kind place value image header.0 header.1 fails
-
--- words and roots that bytes spell give the bytes their fault
-fault_of_spelled : (bytes words roots : List ℕ) (kind : FaultKind) (place value : ℕ) → Spells bytes words roots → WordsFail words roots kind place value
-    → HasFault bytes
-fault_of_spelled bytes words roots overrun place value spells fails = (overrun, place, value, (words, roots, spells, fails))
-fault_of_spelled bytes words roots too_many_objects place value spells fails = (too_many_objects, place, value, (words, roots, spells, fails))
-fault_of_spelled bytes words roots bad_reference place value spells fails = (bad_reference, place, value, (words, roots, spells, fails))
-fault_of_spelled bytes words roots bad_root place value spells fails = (bad_root, place, value, (words, roots, spells, fails))
-fault_of_spelled bytes words roots short place value spells fails = absurd fails
-fault_of_spelled bytes words roots magic place value spells fails = absurd fails
-fault_of_spelled bytes words roots too_many_words place value spells fails = absurd fails
-fault_of_spelled bytes words roots too_many_roots place value spells fails = absurd fails
-fault_of_spelled bytes words roots long place value spells fails = absurd fails
+pub no_fault : (bytes : List ℕ) (heap : Heap) (fault : ImageFault) → IsImage bytes heap → HasFault bytes fault → ⊥
+no_fault bytes heap fault image fails =
+    lawful_no_fault heap fault.kind fault.place fault.value image.lawful
+    (spelled_of_fault bytes heap.words heap.roots image.spells fault.kind fault.place fault.value fails)
 
 -- a refusal of words and roots that bytes spell is one of the bytes
 OnFault-spelled : (bytes words roots : List ℕ) (refusal : ReadImage) → Spells bytes words roots → OnFault refusal (HasFault-words words roots)
     → OnFault refusal (HasFault bytes)
 OnFault-spelled bytes words roots Memory spells fault = tt
-OnFault-spelled bytes words roots (Fault f) spells (is, (kind, place, value, fails)) = (is, fault_of_spelled bytes words roots kind place value spells fails)
+OnFault-spelled bytes words roots (Fault f) spells fails = fault_of_spelled bytes words roots spells f.kind f.place f.value fails
 
 pub IfErr-spelled : {T : Type 0} (bytes words roots : List ℕ) (result : Result T ReadImage) → Spells bytes words roots
     → IfErr result (λ refusal. OnFault refusal (HasFault-words words roots)) → IfErr result (λ refusal. OnFault refusal (HasFault bytes))

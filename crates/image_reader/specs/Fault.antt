@@ -1,7 +1,10 @@
 -- Which test of the bytes of an image fails first, at which place, and with which value there.
 use Rattle.std.specs.Prelude.{◌≡◌, ◌≢◌, ℕ, ◌+◌, ◌*◌, ◌^◌, ◌<◌, ◌≤◌, ◌⊎◌, List, length, take, slice_index, slice_range}
 use Rattle.std.specs.Int.{w64, from_le_bytes}
-use Rattle.image_core.specs.Fault.{FaultKind, short, magic, too_many_words, too_many_roots, long, overrun, too_many_objects, bad_reference, bad_root, WordsFail}
+use Rattle.image_core.specs.Fault.{WordsFail}
+use Rattle.image_core.specs.declared.fault.ImageFault.{ImageFault}
+use Rattle.image_core.specs.declared.fault.ImageKind.{ImageKind}
+use Rattle.image_core.specs.declared.fault.ImageKind.TheVariants.{Short, Magic, TooManyWords, TooManyRoots, Long, Overrun, TooManyObjects, BadRef, BadRoot}
 use Rattle.image_reader.specs.Bytes.{magic_bytes, Spells}
 
 -- the number that eight bytes from a place on spell
@@ -37,28 +40,28 @@ pub record IsOtherMagic (bytes : List ℕ) (place : ℕ) : Type 0 where
   pub before : take place bytes ≡ take place magic_bytes
 
 -- all tests of the header and of the length pass, and this is the first that the words and roots fail
-abbrev pub SpelledFail : List ℕ → FaultKind → ℕ → ℕ → Type 0
+abbrev pub SpelledFail : List ℕ → ImageKind → ℕ → ℕ → Type 0
 SpelledFail bytes kind place value =
     (words : List ℕ) × (roots : List ℕ) × Spells bytes words roots × WordsFail words roots kind place value
 
--- the test of this kind is the first that the bytes fail; the tests stand in their order, and the second of the length is of the kind short too
-abbrev pub BytesFail : List ℕ → FaultKind → ℕ → ℕ → Type 0
-BytesFail bytes short place value =
+-- the test of this kind is the first that the bytes fail; the tests stand in their order, and the second of the length is of the kind Short too
+abbrev pub BytesFail : List ℕ → ImageKind → ℕ → ℕ → Type 0
+BytesFail bytes Short place value =
     (place ≡ length bytes)
     × (((length bytes < 24) × (value ≡ 24))
     ⊎ (HasHeader bytes × (length bytes < length_said bytes) × (value ≡ length_said bytes)))
-BytesFail bytes magic place value = (24 ≤ length bytes) × IsOtherMagic bytes place × (value ≡ slice_index bytes place)
-BytesFail bytes too_many_words place value =
+BytesFail bytes Magic place value = (24 ≤ length bytes) × IsOtherMagic bytes place × (value ≡ slice_index bytes place)
+BytesFail bytes TooManyWords place value =
     HasMagic bytes × (2 ^ 22 < words_said bytes) × (place ≡ 8) × (value ≡ words_said bytes)
-BytesFail bytes too_many_roots place value =
+BytesFail bytes TooManyRoots place value =
     HasMagic bytes × (words_said bytes ≤ 2 ^ 22) × (2 ^ 16 < roots_said bytes) × (place ≡ 16) × (value ≡ roots_said bytes)
-BytesFail bytes long place value =
+BytesFail bytes Long place value =
     HasHeader bytes × (length_said bytes < length bytes) × (place ≡ length_said bytes) × (value ≡ slice_index bytes place)
-BytesFail bytes overrun place value = SpelledFail bytes overrun place value
-BytesFail bytes too_many_objects place value = SpelledFail bytes too_many_objects place value
-BytesFail bytes bad_reference place value = SpelledFail bytes bad_reference place value
-BytesFail bytes bad_root place value = SpelledFail bytes bad_root place value
+BytesFail bytes Overrun place value = SpelledFail bytes Overrun place value
+BytesFail bytes TooManyObjects place value = SpelledFail bytes TooManyObjects place value
+BytesFail bytes BadRef place value = SpelledFail bytes BadRef place value
+BytesFail bytes BadRoot place value = SpelledFail bytes BadRoot place value
 
--- some test fails on the bytes
-abbrev pub HasFault : List ℕ → Type 0
-HasFault bytes = (kind : FaultKind) × (place : ℕ) × (value : ℕ) × BytesFail bytes kind place value
+-- the fault of bytes that are no image
+abbrev pub HasFault : List ℕ → ImageFault → Type 0
+HasFault bytes fault = BytesFail bytes fault.kind fault.place fault.value

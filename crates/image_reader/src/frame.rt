@@ -1,7 +1,9 @@
-ghost use Rattle.std.specs.Prelude.{IfSome, IfNone};
-ghost use Rattle.image_reader.specs.Fault.{HasFault};
+ghost use Rattle.std.specs.Prelude.{◌≡◌, ◌≤◌, length, take, IfOk, IfErr, IfSome, IfNone};
+ghost use Rattle.image_reader.specs.Bytes.{magic_bytes};
+ghost use Rattle.image_reader.specs.Fault.{HasFault, IsOtherMagic};
 
 use crate::words::word;
+use image_core::{ImageFault, ImageKind};
 
 /// The eight bytes that an image begins with.
 pub const MAGIC: &[u8; 8] = b"ROOMIMG1";
@@ -20,24 +22,50 @@ pub struct Frame {
 
 ghost use Rattle.image_reader.specs.Frame.{IsFrame};
 
-/// What the header of bytes says, if the header and the length of the bytes pass their tests.
-pub fn read_frame(bytes: &[u8]) -> Option<Frame>
-    ensures some { IfSome result (IsFrame bytes.now) }
-    ensures none { IfNone result (HasFault bytes.now) }
+/// What the header of bytes says, if the header and the length of the bytes pass their tests; else
+/// the first of these that fails.
+pub fn read_frame(bytes: &[u8]) -> Result<Frame, ImageFault>
+    ensures frame { IfOk result (IsFrame bytes.now) }
+    ensures fault { IfErr result (HasFault bytes.now) }
 {
-    if bytes.len() < 24 || !bytes.starts_with(MAGIC) {
-        return None;
+    let there = bytes.len() as u64;
+    if there < 24 {
+        return Err(ImageFault::new(ImageKind::Short, there, 24));
+    }
+    if let Some(place) = other_magic(bytes) {
+        return Err(ImageFault::new(ImageKind::Magic, place as u64, u64::from(bytes[place])));
     }
     let words = word(bytes, 8);
+    if words > MOST_WORDS {
+        return Err(ImageFault::new(ImageKind::TooManyWords, 8, words));
+    }
     let roots = word(bytes, 16);
-    if words > MOST_WORDS || roots > MOST_ROOTS {
-        return None;
+    if roots > MOST_ROOTS {
+        return Err(ImageFault::new(ImageKind::TooManyRoots, 16, roots));
     }
-    if bytes.len() as u64 != 24 + 8 * (words + roots) {
-        return None;
+    let said = 24 + 8 * (words + roots);
+    if there < said {
+        return Err(ImageFault::new(ImageKind::Short, there, said));
     }
-    Some(Frame {
+    if there > said {
+        return Err(ImageFault::new(ImageKind::Long, said, u64::from(bytes[said as usize])));
+    }
+    Ok(Frame {
         words: words as usize,
         roots: roots as usize,
     })
+}
+
+/// The place of the first byte that is not that of the magic.
+fn other_magic(bytes: &[u8]) -> Option<usize>
+    requires { 8 ≤ length bytes.now }
+    ensures magic { IfNone result (take 8 bytes.now ≡ magic_bytes) }
+    ensures other { IfSome result (IsOtherMagic bytes.now) }
+{
+    for place in 0..MAGIC.len() {
+        if bytes[place] != MAGIC[place] {
+            return Some(place);
+        }
+    }
+    None
 }

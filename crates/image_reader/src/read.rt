@@ -1,6 +1,7 @@
 ghost use Rattle.std.specs.Prelude.{◌≡◌, IfOk, IfErr, MatchResult};
 ghost use Rattle.image_core.specs.Heap.{Heap};
-ghost use Rattle.image_core.specs.Fault.{OnFault};
+ghost use Rattle.image_core.specs.Fault.{OnFault, Tells};
+ghost use Rattle.image_core.specs.declared.fault.ImageFault.{ImageFault};
 ghost use Rattle.image_core.specs.declared.fault.ReadImage.TheVariants.{Memory};
 ghost use Rattle.image_reader.specs.Bytes.{IsImage, Spells};
 ghost use Rattle.image_reader.specs.Fault.{HasFault};
@@ -8,20 +9,22 @@ ghost use Rattle.image_reader.specs.Frame.{IsFrame};
 
 use crate::frame::{Frame, read_frame};
 use crate::words::words_of;
-use image_core::{Image, ImageFault, ReadImage};
+use image_core::{Image, ReadImage};
 use std::alloc::{AllocError, Global};
 
-/// The image that bytes are. `Fault` where a test of them fails, `Memory` where memory runs out.
+/// The image that bytes are. `Fault` where a test of them fails: the first, with its place and value.
+/// `Memory` where memory runs out.
 pub fn read_image(alloc: Global, bytes: &[u8]) -> Result<Image, ReadImage>
     ensures image { IfOk result (IsImage bytes.now) }
     ensures fault { IfErr result (λ refusal. OnFault refusal (HasFault bytes.now)) }
     // The image that the bytes are is read, unless memory runs out.
     ensures found { (heap : Heap) → IsImage bytes.now heap
         → MatchResult result (λ image. image ≡ heap) (λ refusal. refusal ≡ Memory) }
+    // And so is their fault, which is the only one.
+    ensures told { (fault : ImageFault) → HasFault bytes.now fault
+        → MatchResult result (λ _. ⊥) (Tells fault) }
 {
-    let Some(frame) = read_frame(bytes) else {
-        return Err(ReadImage::Fault(ImageFault::other()));
-    };
+    let frame = read_frame(bytes)?;
     let (words, roots) = words_and_roots(alloc, bytes, frame)?;
     Image::lawful(alloc, words, roots)
 }

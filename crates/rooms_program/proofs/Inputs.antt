@@ -1,15 +1,19 @@
 -- What was read of an input that is accepted.
-use Rattle.std.proofs.Common.{◌≡◌, ℕ, ◌+◌, ◌≤◌, List, length, take, inl, inr, sym, subst, ◌∙◌, ap, arith}
+use Rattle.std.proofs.Common.{◌≡◌, ℕ, ◌+◌, ◌≤◌, ◌⊎◌, List, length, take, inl, inr, sym, subst, ◌∙◌, ap, arith}
 use Rattle.std.specs.declared.option.Option.{Option}
 use Rattle.std.proofs.lemmas.List.{take_all}
 use Rattle.std.specs.Io.KnownBytes.{IsAtEnd}
 use Rattle.image_core.specs.Heap.{Heap}
 use Rattle.image_reader.specs.Bytes.{IsImage}
-use Rattle.image_core.specs.Fault.{other}
+use Rattle.image_core.specs.Fault.{Tells}
+use Rattle.image_core.specs.declared.fault.ImageFault.{ImageFault}
+use Rattle.image_core.specs.declared.fault.ReadImage.{ReadImage}
+use Rattle.image_reader.specs.Fault.{HasFault}
 use Rattle.image_reader.proofs.Spelling.{length-spelling}
 use Rattle.image_reader.proofs.Once.{no_fault}
 use Rattle.rooms_program.specs.Commands.{most_bytes, Accepts, IsOutput, Refuses}
 use Rattle.rooms_program.specs.Runs.{WasRead}
+use Rattle.rooms_program.specs.Statuses.{of_read}
 use Rattle.work_pool.specs.declared.crews.Crew.{Crew}
 use Rattle.rooms_program.specs.declared.words.Command.{Command}
 use Rattle.rooms_program.specs.declared.words.Command.TheVariants.{Compact, Schedule, Trial}
@@ -49,7 +53,7 @@ read_accepted command input bytes e a =
 
 -- an image is not refused
 pub image_unrefused : (crew : Crew) (bytes : List ℕ) (heap : Heap) (why : Status) → IsImage bytes heap → Refuses (Compact crew) bytes why → ⊥
-image_unrefused crew bytes heap (Image fault) i r = no_fault bytes heap i r.1
+image_unrefused crew bytes heap (Image fault) i r = no_fault bytes heap fault i r
 image_unrefused crew bytes heap Good i r = r
 image_unrefused crew bytes heap Words i r = r
 image_unrefused crew bytes heap ReadFault i r = r
@@ -59,14 +63,18 @@ image_unrefused crew bytes heap (Act at act) i r = r
 image_unrefused crew bytes heap TooLong i r = r
 image_unrefused crew bytes heap Memory i r = r
 
--- bytes that are no image are refused with the one fault that tells no more
-pub image_refusal : (crew : Crew) (bytes : List ℕ) (why : Status) → Refuses (Compact crew) bytes why → why ≡ Image other
-image_refusal crew bytes (Image fault) r = ap Image r.0
-image_refusal crew bytes Good r = absurd r
-image_refusal crew bytes Words r = absurd r
-image_refusal crew bytes ReadFault r = absurd r
-image_refusal crew bytes WriteFault r = absurd r
-image_refusal crew bytes (Script line) r = absurd r
-image_refusal crew bytes (Act at act) r = absurd r
-image_refusal crew bytes TooLong r = absurd r
-image_refusal crew bytes Memory r = absurd r
+-- a refusal of an image that tells the fault of the bytes is the one that they give
+pub image_refusal : (crew : Crew) (bytes : List ℕ) (why : Status) (refusal : ReadImage) → Refuses (Compact crew) bytes why
+    → ((fault : ImageFault) → HasFault bytes fault → Tells fault refusal) → (of_read refusal ≡ why) ⊎ (of_read refusal ≡ Memory)
+image_refusal crew bytes (Image fault) refusal r told = elim (told fault r) [
+  | inl memory ↦ inr (ap of_read memory)
+  | inr same ↦ inl (ap of_read same)
+]
+image_refusal crew bytes Good refusal r told = absurd r
+image_refusal crew bytes Words refusal r told = absurd r
+image_refusal crew bytes ReadFault refusal r told = absurd r
+image_refusal crew bytes WriteFault refusal r told = absurd r
+image_refusal crew bytes (Script line) refusal r told = absurd r
+image_refusal crew bytes (Act at act) refusal r told = absurd r
+image_refusal crew bytes TooLong refusal r told = absurd r
+image_refusal crew bytes Memory refusal r told = absurd r

@@ -1,6 +1,5 @@
 -- The commands: the inputs that are accepted, the output of an input, and what is refused.
 use Rattle.std.specs.Prelude.{◌≡◌, ℕ, ◌<◌, ◌≤◌, List, length}
-use Rattle.image_core.specs.Fault.{other}
 use Rattle.image_core.specs.Heap.{Heap}
 use Rattle.image_reader.specs.Bytes.{IsImage}
 use Rattle.image_reader.specs.Fault.{HasFault}
@@ -34,9 +33,9 @@ IsOutput (Compact crew) input output = IsCompacted input output
 IsOutput Schedule input output = IsScheduled input output
 IsOutput Trial input output = IsTried input output
 
--- the bytes of an input are refused, and this says why: of bytes that are no image, no more than that
+-- the bytes of an input are refused, and this says why
 abbrev pub Refuses : Command → List ℕ → Status → Type 0
-Refuses (Compact crew) bytes (Image fault) = (fault ≡ other) × HasFault bytes
+Refuses (Compact crew) bytes (Image fault) = HasFault bytes fault
 Refuses Schedule bytes TooLong = most_text < length bytes
 Refuses Schedule bytes (Script line) = IsBroken IsSchedule bytes line
 Refuses Schedule bytes (Act at why) = IsStopped bytes at why

@@ -1,7 +1,7 @@
 -- What a status means outside the program: the number that it ends with, and its note.
 use Rattle.std.specs.Prelude.{ℕ, List, [], ◌++◌, codes, decimal}
 use Rattle.image_core.specs.declared.fault.ImageKind.{ImageKind}
-use Rattle.image_core.specs.declared.fault.ImageKind.TheVariants.{Other}
+use Rattle.image_core.specs.declared.fault.ImageKind.TheVariants.{Short, Magic, TooManyWords, TooManyRoots, Long, Overrun, TooManyObjects, BadRef, BadRoot}
 use Rattle.image_core.specs.declared.fault.ReadImage.{ReadImage}
 use Rattle.image_core.specs.declared.fault.ReadImage.TheVariants as read
 use Rattle.room_core.specs.declared.acts.Refused.{Refused}
@@ -23,7 +23,15 @@ code_of Memory = 9
 
 -- the name of a kind of fault
 abbrev pub kind_name : ImageKind → List ℕ
-kind_name Other = codes "Other"
+kind_name Short = codes "Short"
+kind_name Magic = codes "Magic"
+kind_name TooManyWords = codes "TooManyWords"
+kind_name TooManyRoots = codes "TooManyRoots"
+kind_name Long = codes "Long"
+kind_name Overrun = codes "Overrun"
+kind_name TooManyObjects = codes "TooManyObjects"
+kind_name BadRef = codes "BadRef"
+kind_name BadRoot = codes "BadRoot"
 
 -- the name of a refusal of the core
 abbrev pub refusal_name : Refused → List ℕ

@@ -21,7 +21,15 @@ fn kind_name(kind: ImageKind) -> &'static str
     ensures short { length result.now ≤ 20 }
 {
     match kind {
-        ImageKind::Other => "Other",
+        ImageKind::Short => "Short",
+        ImageKind::Magic => "Magic",
+        ImageKind::TooManyWords => "TooManyWords",
+        ImageKind::TooManyRoots => "TooManyRoots",
+        ImageKind::Long => "Long",
+        ImageKind::Overrun => "Overrun",
+        ImageKind::TooManyObjects => "TooManyObjects",
+        ImageKind::BadRef => "BadRef",
+        ImageKind::BadRoot => "BadRoot",
     }
 }
 

@@ -135,25 +135,33 @@ fn compact_refuses_what_is_no_image(rt: HostRuntime) -> Result<(), Fail> {
     short.truncate(23);
     let mut long = image(alloc, &[0, 0])?;
     long.push(0)?;
-    let cases = [
-        vec![in alloc; 0u8; 24]?,
-        short,
-        long,
-        image(alloc, &[3, 0, 65537, 3, 0])?,
+    let cases: [(Vec<u8>, ImageFault, &str); 4] = [
+        (
+            vec![in alloc; 0u8; 24]?,
+            ImageFault::new(ImageKind::Magic, 0, 0),
+            "image Magic place 0 value 0\n",
+        ),
+        (
+            short,
+            ImageFault::new(ImageKind::Short, 23, 24),
+            "image Short place 23 value 24\n",
+        ),
+        (
+            long,
+            ImageFault::new(ImageKind::Long, 24, 0),
+            "image Long place 24 value 0\n",
+        ),
+        (
+            image(alloc, &[3, 0, 65537, 3, 0])?,
+            ImageFault::new(ImageKind::BadRef, 1, 3),
+            "image BadRef place 1 value 3\n",
+        ),
     ];
-    let fault = ImageFault {
-        kind: ImageKind::Other,
-        place: 0,
-        value: 0,
-    };
-    for bytes in cases {
+    for (bytes, fault, note) in cases {
         let ended = Attempt::new(&["compact"], &bytes).ended(&rt, alloc)?;
         assert_eq!(rt; ended.status, Status::Image(fault));
         assert!(rt; ended.sink.written().is_empty());
-        assert_eq!(rt;
-            ended.notes.written(),
-            b"image Other place 0 value 0\n".as_slice()
-        );
+        assert_eq!(rt; ended.notes.written(), note.as_bytes());
     }
     Ok(())
 }
@@ -249,11 +257,7 @@ fn the_words_tell_the_crew(rt: HostRuntime) -> Result<(), Fail> {
 
 #[test]
 fn each_status_has_its_number(rt: HostRuntime) -> Result<(), Fail> {
-    let fault = ImageFault {
-        kind: ImageKind::Other,
-        place: 0,
-        value: 0,
-    };
+    let fault = ImageFault::new(ImageKind::Short, 23, 24);
     let cases = [
         (Status::Good, 0),
         (Status::Words, 2),

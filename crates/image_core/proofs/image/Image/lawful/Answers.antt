@@ -1,13 +1,32 @@
 use Rattle.std.proofs.Common.{refl}
-use Rattle.image_core.specs.Heap.{IsLawful}
-use Rattle.image_core.proofs.Once.{no_fault, same_heap}
+use Rattle.std.proofs.lemmas.Result.{err_from_is_err_and}
+use Rattle.image_core.proofs.Once.{no_fault, same_heap, told_once, refused_for_memory}
 use Rattle.image_core.proofs.image.Image.lawful.Goals as goal
 
-pub returns-in-Some-clause-found : goal.returns-in-Some-clause-found
-returns-in-Some-clause-found c = λ heap is.
-    let lawful = rw (c.in-Some.is, c.as_slice.ensures.value, c.as_slice-2.ensures.value) at c.in_ok-index.ensures.lawful in
-    same_heap _ _ _ heap (record { words_are = refl; roots_are = refl; lawful = lawful }) is
+pub returns-clause-found : goal.returns-clause-found
+returns-clause-found c = λ heap is.
+    same_heap _ _ _ heap (record {
+      words_are = refl;
+      roots_are = refl;
+      lawful = rw (c.as_slice.ensures.value, c.as_slice-2.ensures.value) at c.in_ok-index.ensures.lawful;
+    }) is
 
-pub returns-in-None-clause-found : goal.returns-in-None-clause-found
-returns-in-None-clause-found c = λ heap is.
-    absurd (no_fault _ _ heap is (rw (c.in-None.is, c.as_slice.ensures.value, c.as_slice-2.ensures.value) at c.in_ok-index.ensures.fault))
+pub returns-clause-told : goal.returns-clause-told
+returns-clause-told c = λ fault fails.
+    no_fault _ _ _ fault (record {
+      words_are = refl;
+      roots_are = refl;
+      lawful = rw (c.as_slice.ensures.value, c.as_slice-2.ensures.value) at c.in_ok-index.ensures.lawful;
+    }) fails
+
+pub returns-in_err-index-clause-found : goal.returns-in_err-index-clause-found
+returns-in_err-index-clause-found c = λ heap is.
+    let refused = err_from_is_err_and c.from_residual.result c.from_residual.ensures.1 in
+    rw (refused.1, refused.2) (refused_for_memory _ _ heap c.in_err-index.field-0.0 is
+    (rw (c.as_slice.ensures.value, c.as_slice-2.ensures.value) at c.in_err-index.ensures.fault))
+
+pub returns-in_err-index-clause-told : goal.returns-in_err-index-clause-told
+returns-in_err-index-clause-told c = λ fault fails.
+    let refused = err_from_is_err_and c.from_residual.result c.from_residual.ensures.1 in
+    rw (refused.1, refused.2) (told_once _ _ fault c.in_err-index.field-0.0 fails
+    (rw (c.as_slice.ensures.value, c.as_slice-2.ensures.value) at c.in_err-index.ensures.fault))
