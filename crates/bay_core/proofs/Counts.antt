@@ -87,13 +87,13 @@ same_sums g (x ∷ xs) ys often =
     let k = there.0 in
     let here : get_or ys k x ≡ x = there.2 in
     let less : (n : ℕ) → times n xs ≡ times n (remove ys k) = λ n.
-        omega (
-          arith,
-          often n,
-          times-cons n x xs,
-          sum_by-remove (one_if n) ys k x there.1,
-          ap (one_if n) here,
-        ) in
+    omega (
+      arith,
+      often n,
+      times-cons n x xs,
+      sum_by-remove (one_if n) ys k x there.1,
+      ap (one_if n) here,
+    ) in
     omega (
       arith,
       sum_by-cons g x xs,
