@@ -1,4 +1,3 @@
-use Rattle.std.proofs.Common.{◌≡◌, List, ℕ, length, ◌∙◌}
 use Rattle.image_slide.specs.Slide.{kept}
 use Rattle.image_slide.specs.Table.{AreNewPlaces}
 use Rattle.image_slide.proofs.Order.{InOrder-kept}

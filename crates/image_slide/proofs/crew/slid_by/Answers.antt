@@ -1,4 +1,4 @@
-use Rattle.std.proofs.Common.{◌≡◌, ℕ, length, map, ap, ◌∙◌, arith}
+use Rattle.std.proofs.Common.{map, ap, arith}
 use Rattle.std.specs.List.{flat_map}
 use Rattle.bay_core.specs.Times.{times}
 use Rattle.bay_core.proofs.Counts.{times-append}
@@ -25,6 +25,6 @@ returns-clause-once g c p =
       ap (λ l. times p (flat_map pieces_in l)) c.as_slice.ensures.value,
       c.in_ok-parts.ensures.numbers p,
       all_once c.args.image.now c.args.marks.now c.args.table.now c.args.crew.now.workers c.in_ok-works.works.items
-      c.in_ok-works-2.field-0.works.items left c.requires.crew.workers.0 c.in_ok-works.ensures c.in_ok-works-2.ensures.made
-      c.in_ok-works-2.ensures.settled c.in_ok-parts.ensures.accounts p,
+          c.in_ok-works-2.field-0.works.items left c.requires.crew.workers.0 c.in_ok-works.ensures c.in_ok-works-2.ensures.made
+          c.in_ok-works-2.ensures.settled c.in_ok-parts.ensures.accounts p,
     )

@@ -1,4 +1,4 @@
-use Rattle.std.proofs.Common.{◌≡◌, ℕ, List, sym, ap, ◌∙◌, map, take, length}
+use Rattle.std.proofs.Common.{ℕ, List, sym, ap, ◌∙◌, length}
 use Rattle.std.specs.List.{flat_map, range_with_len}
 use Rattle.std.proofs.lemmas.List.{take_all}
 use Rattle.bay_core.specs.Times.{times}
