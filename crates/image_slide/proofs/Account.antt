@@ -1,5 +1,5 @@
 -- The account of each slider, and of all of them.
-use Rattle.std.proofs.Common.{◌≡◌, ℕ, zero, suc, ◌+◌, ◌-◌, ◌^◌, ◌<◌, ◌≤◌, Bool, true, false, List, [], ◌∷◌, ◌++◌, map, refl, sym, ap, ap₂, ◌∙◌, subst, arith, length, take, drop, eqb, eq-eqb, ne_eqb}
+use Rattle.std.proofs.Common.{◌≡◌, ℕ, suc, ◌+◌, ◌-◌, ◌^◌, ◌<◌, ◌≤◌, Bool, true, false, List, [], ◌∷◌, ◌++◌, map, refl, sym, ap, ap₂, ◌∙◌, subst, arith, length, take, drop, eqb, ne_eqb}
 use Rattle.std.specs.List.{flat_map, range_with_len, sum_by, All}
 use Rattle.std.proofs.lemmas.List.{append-nil, take-append-drop, take-append-le, drop-append-le, length-append, length-drop}
 use Rattle.std.proofs.lemmas.List.Concat.{flat_map-append}
@@ -235,6 +235,6 @@ module _ (heap : Heap) (marks : List Bool) (table : List ℕ) where
             pieces_done p,
             times-flat p (λ m. m.slid) is,
             sum-balance (λ m. times p m.slid) (λ m. times p (flat_map pieces_in m.stands.given))
-            (λ m. times p (pieces_first m.heap m.whole)) (λ m. times p (flat_map pieces_in m.stands.done)) is (λ i m at. one_account p i m at),
+                (λ m. times p (pieces_first m.heap m.whole)) (λ m. times p (flat_map pieces_in m.stands.done)) is (λ i m at. one_account p i m at),
             begun_now p,
           )

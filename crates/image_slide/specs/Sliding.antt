@@ -36,6 +36,10 @@ start_of m = record { image = m.heap; marks = m.marks; table = m.table; whole = 
 abbrev pub IsOf : Heap → List Bool → List ℕ → Sliding → Type 0
 IsOf heap marks table m = (m.heap ≡ heap) × (m.marks ≡ marks) × (m.table ≡ table)
 
+-- and so are all of these
+abbrev pub AreOf : Heap → List Bool → List ℕ → List Sliding → Type 0
+AreOf heap marks table works = (i : ℕ) (m : Sliding) → IsAt works i m → IsOf heap marks table m
+
 -- What a slider slid, and the pieces of the jobs that it gave and has to give, are those with which it
 -- began and those of the jobs that it did, each as often.
 pub record Accounts (m : Sliding) : Type 0 where

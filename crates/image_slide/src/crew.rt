@@ -1,21 +1,22 @@
 //! Sliding with a crew.
-ghost use Rattle.std.specs.Prelude.{◌≡◌, ◌++◌, ℕ, ◌<◌, ◌^◌, [], length, map, All, OnOk, IfOk};
-ghost use Rattle.std.specs.List.{flat_map, range_with_len};
+ghost use Rattle.std.specs.Prelude.{◌≡◌, ◌++◌, ℕ, List, Bool, length, map, All, OnOk, IfOk};
+ghost use Rattle.std.specs.List.{flat_map};
 ghost use Rattle.room_rule.specs.Use.{IsAt};
 ghost use Rattle.bay_core.specs.Times.{times};
+ghost use Rattle.image_core.specs.Heap.{Heap};
 ghost use Rattle.image_core.specs.Live.{MarksLive};
 ghost use Rattle.work_pool.specs.Crews.{IsCrew};
 ghost use Rattle.image_slide.specs.Slide.{slide};
 ghost use Rattle.image_slide.specs.Moving.{IsMoved};
 ghost use Rattle.image_slide.specs.Pieces.{pieces_of};
-ghost use Rattle.image_slide.specs.Jobs.{pieces_in, first_of, end_of};
+ghost use Rattle.image_slide.specs.Jobs.{pieces_in};
 ghost use Rattle.image_slide.specs.Parts.{IsSlid, AreOnce};
-ghost use Rattle.image_slide.specs.Sliding.{IsOf, Accounts};
+ghost use Rattle.image_slide.specs.Sliding.{AreOf, Accounts};
 
 use crate::jobs::{end_piece, first_piece};
 use crate::joins::joined;
 use crate::moves::new_names;
-use crate::pieces::{Part, slid_piece};
+use crate::pieces::{Part, pieces_of, slid_piece};
 use crate::places::new_places;
 use crate::slide::Moved;
 use crate::sliders::{Slider, sliders};
@@ -67,7 +68,8 @@ pub(crate) fn moved_with<R: Threads + Wait + Sync, G: Gate + Sync>(
     let new = new_places(alloc, image.words(), image.heads(), marks)?;
     let table = new.table.as_slice();
     let parts = slid_by(rt, alloc, image, marks, table, crew, gate)?;
-    let words = joined(alloc, image, marks, table, parts, new.size as usize)?;
+    let pieces = pieces_of(image.objects()) as usize;
+    let words = joined(alloc, parts, pieces, new.size as usize)?;
     let roots = new_names(alloc, image.roots(), table)?;
     Ok(Moved {
         words,
@@ -94,27 +96,18 @@ fn slid_by<R: Threads + Wait + Sync, G: Gate + Sync>(
 {
     let works = sliders(alloc, image, marks, table, crew.workers)?;
     let Ended { works, left, .. } = run_crew(rt, alloc, crew, Way::Queue, works, gate)?;
-    let mut parts = gathered(alloc, image, marks, table, works)?;
+    let mut parts = gathered(alloc, works)?;
     slide_left(alloc, image, marks, table, left.as_slice(), &mut parts)?;
     Ok(parts)
 }
 
 /// The pieces that these workers slid.
-fn gathered<'a>(
-    alloc: Global,
-    image: &Image,
-    marks: &[bool],
-    table: &[u32],
-    works: Vec<Slider<'a>>,
-) -> Result<Vec<Part>, AllocError>
-    requires { (i : ℕ) (m : _) → IsAt works.items i m → IsOf image.now marks.now table.now m }
+fn gathered<'a>(alloc: Global, works: Vec<Slider<'a>>) -> Result<Vec<Part>, AllocError>
     ensures numbers { IfOk result (λ parts. (p : ℕ) → times p (map (λ part. part.piece) parts.items) ≡ times p (flat_map (λ m. m.slid) works.entry.items)) }
-    ensures slid { IfOk result (λ parts. All (IsSlid image.now marks.now table.now) parts.items) }
+    ensures slid { IfOk result (λ parts. (heap : Heap) (marks : List Bool) (table : List ℕ)
+        → AreOf heap marks table works.entry.items → All (IsSlid heap marks table) parts.items) }
     ensures accounts { IfOk result (λ parts. (i : ℕ) (m : _) → IsAt works.entry.items i m → Accounts m) }
 {
-    let _ = image;
-    let _ = marks;
-    let _ = table;
     let mut parts = Vec::new(alloc);
     let mut rest = works;
     while let Some(work) = rest.pop() {

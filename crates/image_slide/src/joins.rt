@@ -1,33 +1,24 @@
 //! Pieces put together, in the order of their numbers.
-ghost use Rattle.std.specs.Prelude.{◌≡◌, ℕ, ◌<◌, map, length, vec_len, slice_index_or, All, IfOk};
+ghost use Rattle.std.specs.Prelude.{◌≡◌, ℕ, List, map, vec_len, IfOk};
 ghost use Rattle.std.specs.List.{flat_map, range_with_len};
-ghost use Rattle.bay_core.specs.Times.{times};
-ghost use Rattle.image_core.specs.Heap.{Heap};
-ghost use Rattle.image_slide.specs.Slide.{kept};
-ghost use Rattle.image_slide.specs.Table.{moved_by};
-ghost use Rattle.image_slide.specs.Pieces.{pieces_of, piece_by};
-ghost use Rattle.image_slide.specs.Parts.{IsSlid, AreOnce};
+ghost use Rattle.image_slide.specs.Parts.{HaveWords, AreOnce};
 
-use crate::pieces::{Part, pieces_of};
-use image_core::Image;
+use crate::pieces::Part;
 use std::alloc::{AllocError, Global};
 
-/// The words of all pieces, one piece after another, of which each is there once. `count` is how many
+/// The words of so many pieces, one piece after another. Each piece is there once. `count` is how many
 /// words they have.
 pub(crate) fn joined(
     alloc: Global,
-    image: &Image,
-    marks: &[bool],
-    table: &[u32],
     parts: Vec<Part>,
+    pieces: usize,
     count: usize,
 ) -> Result<Vec<u64>, AllocError>
-    requires once { AreOnce (pieces_of (length image.now.heads)) (map (λ part. part.piece) parts.items) }
-    requires slid { All (IsSlid image.now marks.now table.now) parts.items }
-    ensures { IfOk result (λ words. words.items ≡ flat_map (moved_by image.now.words table.now) (kept image.now.heads marks.now)) }
+    requires { AreOnce pieces (map (λ part. part.piece) parts.items) }
+    ensures { IfOk result (λ words. (words_of : ℕ → List ℕ) → HaveWords words_of parts.items
+        → words.items ≡ flat_map words_of (range_with_len 0 pieces)) }
 {
-    let pieces = pieces_of(image.objects()) as usize;
-    let places = in_places(alloc, image, marks, table, parts, pieces)?;
+    let places = in_places(alloc, parts, pieces)?;
     let mut words = Vec::with_capacity(alloc, count)?;
     for place in places.as_slice() {
         words.extend_from_slice(place)?;
@@ -36,21 +27,11 @@ pub(crate) fn joined(
 }
 
 /// The words of each piece, at the place of its number.
-fn in_places(
-    alloc: Global,
-    image: &Image,
-    marks: &[bool],
-    table: &[u32],
-    parts: Vec<Part>,
-    pieces: usize,
-) -> Result<Vec<Vec<u64>>, AllocError>
-    requires once { AreOnce pieces (map (λ part. part.piece) parts.items) }
-    requires slid { All (IsSlid image.now marks.now table.now) parts.items }
-    ensures { IfOk result (λ places. map (λ place. place.items) places.items ≡ map (piece_by image.now marks.now table.now) (range_with_len 0 pieces)) }
+fn in_places(alloc: Global, parts: Vec<Part>, pieces: usize) -> Result<Vec<Vec<u64>>, AllocError>
+    requires { AreOnce pieces (map (λ part. part.piece) parts.items) }
+    ensures { IfOk result (λ places. (words_of : ℕ → List ℕ) → HaveWords words_of parts.items
+        → map (λ place. place.items) places.items ≡ map words_of (range_with_len 0 pieces)) }
 {
-    let _ = image;
-    let _ = marks;
-    let _ = table;
     let mut places = no_words(alloc, pieces)?;
     let mut rest = parts;
     while let Some(part) = rest.pop() {

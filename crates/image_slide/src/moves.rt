@@ -1,5 +1,5 @@
 //! The words of objects, moved: renamed by a table of new places.
-ghost use Rattle.std.specs.Prelude.{◌≡◌, ◌+◌, ◌<◌, ◌≤◌, ◌^◌, ◌++◌, length, vec_capacity, vec_len, map, sum_by, All, IfOk};
+ghost use Rattle.std.specs.Prelude.{◌≡◌, ◌+◌, ◌≤◌, ◌^◌, ◌++◌, length, vec_capacity, vec_len, map, sum_by, All, IfOk};
 ghost use Rattle.std.specs.List.{flat_map};
 ghost use Rattle.image_core.specs.Object.{Fits, size_at, references_at};
 ghost use Rattle.image_slide.specs.Slide.{kept};

@@ -45,8 +45,7 @@ fn in_piece<T>(xs: &[T], piece: u64) -> &[T]
 pub fn slid_in_pieces()
     ensures { (heap : Heap) (marks : List Bool) → (slide heap marks).words
         ≡ flat_map (piece_words heap marks) (range_with_len 0 (pieces_of (length heap.heads))) }
-{
-}
+{}
 
 /// Slides a piece.
 pub(crate) fn slid_piece(

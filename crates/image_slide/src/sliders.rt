@@ -1,5 +1,5 @@
 //! The work of one worker: sliding pieces.
-ghost use Rattle.std.specs.Prelude.{◌≡◌, ◌+◌, ◌-◌, ◌<◌, ◌≤◌, ◌^◌, ℕ, length, map, vec_capacity, All, OnOk, OnErr, IfOk};
+ghost use Rattle.std.specs.Prelude.{◌≡◌, ◌+◌, ◌-◌, ◌<◌, ◌≤◌, ◌^◌, length, map, vec_capacity, All, OnOk, OnErr, IfOk};
 ghost use Rattle.image_slide.specs.Jobs.{first_of, end_of, IsLater, DoesJob};
 ghost use Rattle.image_slide.specs.Parts.{IsSlid};
 ghost use Rattle.image_slide.specs.Sliding.{jobs_first, Begins, AreSliders, Accounts, start_of};

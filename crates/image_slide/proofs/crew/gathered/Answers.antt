@@ -1,6 +1,6 @@
-use Rattle.std.proofs.Common.{◌≡◌, ℕ, List, [], ◌∷◌, ◌++◌, length, map, inl, inr, refl, sym, ap, subst, ◌∙◌, arith}
+use Rattle.std.proofs.Common.{◌≡◌, ℕ, List, [], ◌∷◌, ◌++◌, length, map, inl, inr, refl, sym, ap, subst, arith}
 use mathlib.Core.Option.{some-ne-none}
-use Rattle.std.specs.List.{All, flat_map}
+use Rattle.std.specs.List.{flat_map}
 use Rattle.std.proofs.lemmas.List.{append-nil, map-append, nil_from_length}
 use Rattle.std.proofs.lemmas.List.Concat.{flat_map-append}
 use Rattle.std.proofs.lemmas.List.Elements.{All-same, All-append}
@@ -23,10 +23,7 @@ loop-work-preserved c =
     let popped = c.in-Some.ensures.items in let pushed = c.in_ok-append.ensures.items in
     let parts = c.loop-work.parts.items in let more = c.into_parts-more.result.items in
     let own = c.into_parts-more.ensures in
-    let heap = c.args.image.now in let live = c.args.marks.now in let table = c.args.table.now in
-    let of = inv.of (length rest) work (subst (λ (l : List Sliding). IsAt l (length rest) work) (sym popped) (at_last rest work (length rest) refl)) in
     record {
-      of = λ i m at. inv.of i m (subst (λ (l : List Sliding). IsAt l i m) (sym popped) (at_longer rest (work ∷ []) i m at));
       numbers = λ p. omega (
         arith,
         inv.numbers p,
@@ -39,8 +36,13 @@ loop-work-preserved c =
         times-append p (slid_by_all rest) (work.slid ++ []),
         ap (times p) (append-nil work.slid),
       );
-      slid = All-same (IsSlid heap live table) c.append.new.self.items _ pushed
-          (All-append (IsSlid heap live table) parts more inv.slid (slid_of heap live table work more of own.slid));
+      slid = λ heap marks table all.
+          let old = inv.slid heap marks table all in
+          let of = old.0 (length rest) work (subst (λ (l : List Sliding). IsAt l (length rest) work) (sym popped) (at_last rest work (length rest) refl)) in (
+            (λ i m at. old.0 i m (subst (λ (l : List Sliding). IsAt l i m) (sym popped) (at_longer rest (work ∷ []) i m at))),
+            All-same (IsSlid heap marks table) c.append.new.self.items _ pushed
+                (All-append (IsSlid heap marks table) parts more old.1 (slid_of heap marks table work more of own.slid)),
+          );
       accounts = λ i m at. elim (inv.accounts i m at) [
         | inl here ↦ elim (at_snoc rest work m i (subst (λ (l : List Sliding). IsAt l i m) popped here)) [
           | inl old ↦ inl old

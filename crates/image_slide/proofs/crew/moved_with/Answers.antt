@@ -1,6 +1,10 @@
-use Rattle.std.proofs.Common.{◌≡◌, List, ℕ, length, ◌∙◌}
+use Rattle.std.proofs.Common.{◌≡◌, sym, ap, length, ◌∙◌}
 use Rattle.image_slide.specs.Slide.{kept}
-use Rattle.image_slide.specs.Table.{AreNewPlaces}
+use Rattle.image_slide.specs.Table.{AreNewPlaces, moved_by}
+use Rattle.image_slide.specs.Pieces.{pieces_of, piece_by}
+use Rattle.std.specs.List.{flat_map, range_with_len}
+use Rattle.bay_core.specs.Times.{times}
+use Rattle.image_slide.proofs.Pieced.{by_pieces, enough}
 use Rattle.image_slide.proofs.Order.{InOrder-kept}
 use Rattle.image_slide.proofs.Renaming.{AreNames-lawful}
 use Rattle.image_slide.proofs.crew.moved_with.Goals as goal
@@ -9,6 +13,11 @@ pub new_places-requires-clause-order : goal.new_places-requires-clause-order
 new_places-requires-clause-order g c =
     rw (c.words.ensures.words, c.heads.ensures.heads)
     (InOrder-kept _ _ _ c.heads.ensures.lawful.fill)
+
+pub joined-requires : goal.joined-requires
+joined-requires g c p =
+    let many = c.pieces_of-pieces.ensures.value ∙ ap pieces_of c.objects.ensures.count in
+    c.in_ok-parts.ensures.once p ∙ ap (λ n. times p (range_with_len 0 n)) (sym many)
 
 pub new_names-requires : goal.new_names-requires
 new_names-requires g c =
@@ -20,11 +29,18 @@ pub returns : goal.returns
 returns g c =
     let new : AreNewPlaces c.args.image.now.words (kept c.args.image.now.heads c.args.marks.now) c.in_ok-new.new =
     rw (c.words.ensures.words, c.heads.ensures.heads) at c.in_ok-new.ensures in
+    let heap = c.args.image.now in let table = c.in_ok-new.new.table.items in
+    let F = piece_by heap c.args.marks.now table in
+    let many = c.pieces_of-pieces.ensures.value ∙ ap pieces_of c.objects.ensures.count in
+    let words : c.in_ok-words.words.items ≡ flat_map (moved_by heap.words table) (kept heap.heads c.args.marks.now) =
+    c.in_ok-words.ensures F (rw c.as_slice-table.ensures.value at c.in_ok-parts.ensures.slid)
+    ∙ (ap (λ n. flat_map F (range_with_len 0 n)) many
+    ∙ sym (by_pieces (moved_by heap.words table) heap.heads c.args.marks.now (pieces_of (length heap.heads)) (enough (length heap.heads)))) in
     record {
       lawful = c.heads.ensures.lawful;
       table = c.in_ok-new.new.table.items;
       is_table = new.table;
-      words = rw c.as_slice-table.ensures.value at c.in_ok-words.ensures;
+      words = words;
       roots = rw (c.roots.ensures.roots, c.as_slice-table.ensures.value) at c.in_ok-roots.ensures;
       heads = new.heads;
       index = new.index;

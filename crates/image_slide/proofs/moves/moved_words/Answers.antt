@@ -1,4 +1,4 @@
-use Rattle.std.proofs.Common.{◌≡◌, ◌∷◌, ◌++◌, [], ℕ, List, inl, inr, ap, sym, ◌∙◌, subst, arith, length, append_assoc}
+use Rattle.std.proofs.Common.{◌++◌, ℕ, inl, inr, ap, sym, ◌∙◌, subst, arith, length, append_assoc}
 use Rattle.std.specs.List.{flat_map, sum_by, All}
 use Rattle.std.specs.Iterator.Adapters.{zip_first, zip_second}
 use Rattle.std.specs.Slice.Iter.{iter_rest}
@@ -11,7 +11,6 @@ use Rattle.image_slide.specs.Table.{AreNames, moved_by}
 use Rattle.image_slide.proofs.Kept.{kept_end, kept_next, kept_past}
 use Rattle.image_slide.proofs.Renaming.{length-moved_by}
 use Rattle.image_slide.proofs.moves.moved_words.Goals as goal
-
 
 pub loop-head-preserved-then-marked : goal.loop-head-preserved-then-marked
 loop-head-preserved-then-marked c =
@@ -62,5 +61,5 @@ pub returns : goal.returns
 returns c =
     let f = moved_by c.args.words.now c.args.table.now in
     let end = kept_end (iter_rest (zip_first c.loop-head.head-iterator)) (iter_rest (zip_second c.loop-head.head-iterator))
-    (elim c.in-None.ensures.steps [ | inl heads ↦ inl heads.1.0 | inr marks ↦ inr marks.1.0 ]) in
+    (elim c.in-None.ensures.steps [ inl heads ↦ inl heads.1.0 | inr marks ↦ inr marks.1.0 ]) in
     sym (append-nil c.loop-head.out.items) ∙ (ap (λ l. c.loop-head.out.items ++ flat_map f l) (sym end) ∙ c.loop-head.invariant.items)

@@ -1,8 +1,8 @@
-use Rattle.std.proofs.Common.{◌≡◌, ◌∷◌, ℕ, List, inl, inr, ap, sym, ◌∙◌, subst, arith, length}
+use Rattle.std.proofs.Common.{ℕ, inl, inr, ap, subst, arith, length}
 use Rattle.std.specs.List.{sum_by, All}
 use Rattle.std.specs.Iterator.Adapters.{zip_first, zip_second}
 use Rattle.std.specs.Slice.Iter.{iter_rest}
-use Rattle.std.proofs.lemmas.List.Elements.{All-head, All-tail}
+use Rattle.std.proofs.lemmas.List.Elements.{All-tail}
 use Rattle.std.proofs.lemmas.List.Sums.{sum_by-cons}
 use Rattle.image_core.specs.Object.{Fits, size_at}
 use Rattle.image_slide.specs.Slide.{kept}
@@ -42,5 +42,5 @@ loop-head-preserved c =
 pub returns : goal.returns
 returns c =
     let end = kept_end (iter_rest (zip_first c.loop-head.head-iterator)) (iter_rest (zip_second c.loop-head.head-iterator))
-    (elim c.in-None.ensures.steps [ | inl heads ↦ inl heads.1.0 | inr marks ↦ inr marks.1.0 ]) in
+    (elim c.in-None.ensures.steps [ inl heads ↦ inl heads.1.0 | inr marks ↦ inr marks.1.0 ]) in
     omega (arith, c.loop-head.invariant.sum, ap (sum_by (size_at c.args.words.now)) end)

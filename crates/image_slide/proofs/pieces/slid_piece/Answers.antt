@@ -1,4 +1,4 @@
-use Rattle.std.proofs.Common.{◌≡◌, ap, ◌∙◌, arith, length}
+use Rattle.std.proofs.Common.{ap, arith, length}
 use Rattle.image_core.specs.Object.{Fits, references_at}
 use Rattle.image_slide.specs.Table.{AreNames}
 use Rattle.image_slide.proofs.Pieced.{in_piece_all, in_piece_few}

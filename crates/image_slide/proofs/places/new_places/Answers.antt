@@ -1,8 +1,7 @@
-use Rattle.std.proofs.Common.{◌≡◌, ◌+◌, ◌<◌, ◌∷◌, [], ◌++◌, ℕ, List, inl, inr, refl, ap, sym, ◌∙◌, subst, arith, length, take, drop, replicate, map, set, vec_len, rules}
-use Rattle.std.specs.List.{sum_by, All}
+use Rattle.std.proofs.Common.{◌≡◌, ◌+◌, ℕ, List, inl, inr, ap, sym, ◌∙◌, subst, arith, length, drop, map, set, vec_len, rules}
+use Rattle.std.specs.List.{sum_by}
 use Rattle.std.specs.Iterator.Adapters.{zip_first, zip_second}
 use Rattle.std.specs.Slice.Iter.{iter_rest}
-use Rattle.std.proofs.lemmas.List.{take_all}
 use Rattle.image_core.specs.Object.{size_at}
 use Rattle.image_slide.specs.Slide.{kept, new_place}
 use Rattle.image_slide.proofs.Kept.{kept_end, kept_next, kept_past}
@@ -81,7 +80,7 @@ returns c =
     let inv = c.loop-head.invariant in let p = inv.placing in
     let live = kept c.args.heads.now c.args.marks.now in
     let end = kept_end (iter_rest (zip_first c.loop-head.head-iterator)) (iter_rest (zip_second c.loop-head.head-iterator))
-    (elim c.in-None.ensures.steps [ | inl heads ↦ inl heads.1.0 | inr marks ↦ inr marks.1.0 ]) in
+    (elim c.in-None.ensures.steps [ inl heads ↦ inl heads.1.0 | inr marks ↦ inr marks.1.0 ]) in
     let all = all_placed _ _ _ _ _ _ _ (inv.rest ∙ end) p in
     record {
       table = IsTable-placed _ _ _ p.each (subst (Placed c.args.words.now live c.loop-head.table.items) all.1 p.placed);

@@ -1,4 +1,4 @@
-use Rattle.std.proofs.Common.{◌≡◌, List, ℕ, length, ◌∙◌, arith}
+use Rattle.std.proofs.Common.{arith}
 use Rattle.image_slide.specs.Slide.{kept}
 use Rattle.image_slide.specs.Table.{AreNewPlaces}
 use Rattle.image_slide.proofs.Order.{InOrder-kept}

@@ -1,4 +1,4 @@
-use Rattle.std.proofs.Common.{map, arith}
+use Rattle.std.proofs.Common.{arith}
 use Rattle.std.proofs.lemmas.List.Elements.{All-same, All-push}
 use Rattle.image_slide.specs.Parts.{IsSlid}
 use Rattle.image_slide.proofs.Account.{no_job}
