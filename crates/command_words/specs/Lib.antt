@@ -1,0 +1,5 @@
+pub mod Parts
+pub mod Words
+pub mod Texts
+pub mod Clap
+pub mod Forms
