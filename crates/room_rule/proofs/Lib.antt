@@ -12,3 +12,4 @@ pub mod UserSteps
 pub mod Looking
 pub mod Closing
 pub mod Following
+pub mod States

@@ -10,3 +10,4 @@ pub mod Looking
 pub mod Closes
 pub mod Plainly
 pub mod Following
+pub mod States
