@@ -13,3 +13,4 @@ pub mod Looking
 pub mod Closing
 pub mod Following
 pub mod States
+pub mod Writers

@@ -11,3 +11,4 @@ pub mod Closes
 pub mod Plainly
 pub mod Following
 pub mod States
+pub mod Writers

@@ -7,6 +7,7 @@ use Rattle.room_core.specs.Bypass.{IsPrompt}
 use Rattle.room_core.proofs.Theorems.{is_apart, exits_once, admits, is_prompt}
 use Rattle.room_core.proofs.Chosen.{run_cyclic}
 use Rattle.room_rule.proofs.States.{in_every_state, insiders_occupy, one_room, none_by_the_key}
+use Rattle.room_rule.proofs.Writers.{holders_step_on_words, outsiders_change_touch_words}
 use Rattle.room_rule.proofs.Following.{steps_are_acts, draws_are_acts, leaves_are_acts}
 use Rattle.room_rule.proofs.Following.{insiders_keep_it, holders_keep_it, touches_keep_it}
 use Rattle.room_rule.proofs.theorems.the_table_follows_the_protocol.Goals as goal
@@ -63,3 +64,11 @@ returns-clause-one_room g c = one_room g.U.RoomUse.meaning g.U.RoomUse.ROOMS
 
 pub returns-clause-none_by_the_key : goal.returns-clause-none_by_the_key
 returns-clause-none_by_the_key g c = none_by_the_key g.U.RoomUse.meaning g.U.RoomUse.ROOMS
+
+pub returns-clause-writers : goal.returns-clause-writers
+returns-clause-writers g c =
+    holders_step_on_words g.U.RoomUse.meaning g.U.RoomUse.ROOMS g.met.U.RoomUse.laws
+
+pub returns-clause-touch_words : goal.returns-clause-touch_words
+returns-clause-touch_words g c =
+    outsiders_change_touch_words g.U.RoomUse.meaning g.U.RoomUse.ROOMS g.met.U.RoomUse.laws
