@@ -14,3 +14,4 @@ pub mod Closing
 pub mod Following
 pub mod States
 pub mod Writers
+pub mod Made

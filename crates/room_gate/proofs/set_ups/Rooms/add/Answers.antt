@@ -10,5 +10,5 @@ add_as-requires-clause-step g c =
     steps_of M g.U.RoomUse.ROOMS g.met.U.RoomUse.laws c.args.self.now
     c.args.word c.requires.word then c.inside.inside c.inside.invariant c.args.inside.now
     c.inside.view_is (λ n. (n + c.args.by) % 2 ^ 64) (λ n. n + c.args.by)
-    (fits_with c.args.by) (stepped_to M then (λ n. n + c.args.by) me) c.requires.can
-    (λ n _ h. mod-eq_of_lt h) (λ n u carried has t. (refl, has, t))
+    (fits_with c.args.by) (stepped_to M c.args.self.now.usage c.args.word then (λ n. n + c.args.by) me) c.requires.can
+    (λ n _ h. mod-eq_of_lt h) (λ n u carried has t made. (refl, has, t, made))

@@ -4,4 +4,4 @@ use Rattle.room_gate.proofs.set_ups.Rooms.add.Given as goal
 
 abbrev pub ghosts-add_as : goal.ghosts-add_as
 ghosts-add_as g a =
-    record { tells = stepped_to g.U.RoomUse.meaning (g.M.Outcome.then a._what.now) (λ n. n + a.by) }
+    record { tells = stepped_to g.U.RoomUse.meaning a.self.now.usage a.word (g.M.Outcome.then a._what.now) (λ n. n + a.by) }

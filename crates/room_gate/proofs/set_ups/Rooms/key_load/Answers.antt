@@ -10,6 +10,6 @@ load_as-requires-clause-step g c =
     let then = g.M.Outcome.then c.args.what.now in let me = c.key.inside.seat.me in
     exits_of M g.U.RoomUse.ROOMS g.met.U.RoomUse.laws c.args.self.now word c.requires.word then
     c.key.inside c.key.invariant c.args.key.now c.key.view_is (λ n. n) (λ n. n)
-    (λ _. me.0.kept) (key_loaded M then x word me) c.requires.can (λ n _. refl)
+    (λ _. me.0.kept) (key_loaded M x word then me) c.requires.can (λ n _. refl)
     (λ words size shows. shows_same M x words me.0.kept word (get_or words word 0) size refl shows)
-    (λ n u shown t. (refl, shown, t))
+    (λ n u shown t made. (refl, shown, t, made))

@@ -10,6 +10,6 @@ store_as-requires-clause-step g c =
     let then = g.M.Outcome.then c.args.what.now in let me = c.key.inside.seat.me in
     exits_of M g.U.RoomUse.ROOMS g.met.U.RoomUse.laws c.args.self.now word c.requires.word then
     c.key.inside c.key.invariant c.args.key.now c.key.view_is (λ _. c.args.value) (λ _. c.args.value)
-    (λ _. set me.0.kept word c.args.value) (λ _. key_stored M then x word me c.args.value) c.requires.can (λ n _. refl)
+    (λ _. set me.0.kept word c.args.value) (λ _. key_stored M x word then me c.args.value) c.requires.can (λ n _. refl)
     (λ words size shows. shows_set M x words me.0.kept word c.args.value size shows)
-    (λ n u shown t. (refl, (n, shown, t)))
+    (λ n u shown t made. (refl, (n, shown, t, made)))

@@ -9,5 +9,5 @@ load_as-requires-clause-step g c =
     let me = c.inside.inside.seat.me in
     steps_of M g.U.RoomUse.ROOMS g.met.U.RoomUse.laws c.args.self.now
     c.args.word c.requires.word then c.inside.inside c.inside.invariant c.args.inside.now
-    c.inside.view_is (λ n. n) (λ n. n) any (stepped_to M then (λ n. n) me) c.requires.can
-    (λ n _ _. refl) (λ n u carried has t. (refl, has, t))
+    c.inside.view_is (λ n. n) (λ n. n) any (stepped_to M c.args.self.now.usage c.args.word then (λ n. n) me) c.requires.can
+    (λ n _ _. refl) (λ n u carried has t made. (refl, has, t, made))

@@ -10,5 +10,5 @@ sub_as-requires-clause-step g c =
     steps_of M g.U.RoomUse.ROOMS g.met.U.RoomUse.laws c.args.self.now
     c.args.word c.requires.word then c.inside.inside c.inside.invariant c.args.inside.now
     c.inside.view_is (λ n. (n + (2 ^ 64 - c.args.by)) % 2 ^ 64) (λ n. n - c.args.by)
-    (λ n. c.args.by ≤ n) (stepped_to M then (λ n. n - c.args.by) me) c.requires.can
-    (λ n small low. taken n c.args.by small low) (λ n u carried has t. (refl, has, t))
+    (λ n. c.args.by ≤ n) (stepped_to M c.args.self.now.usage c.args.word then (λ n. n - c.args.by) me) c.requires.can
+    (λ n small low. taken n c.args.by small low) (λ n u carried has t made. (refl, has, t, made))

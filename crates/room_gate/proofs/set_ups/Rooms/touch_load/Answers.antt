@@ -9,5 +9,5 @@ load_as-requires-clause-step g c =
     let me = c.pass.inside.seat.me in
     touches_of M g.U.RoomUse.ROOMS g.met.U.RoomUse.laws c.args.self.now
     c.args.word c.requires.word then c.pass.inside c.pass.invariant c.args.pass.now
-    c.pass.view_is (λ n. n) (λ n. n) any (touched_to M then (λ n. n) me) c.requires.can
-    (λ n _ _. refl) (λ n u t. (refl, t))
+    c.pass.view_is (λ n. n) (λ n. n) any (touched_to M c.args.self.now.usage c.args.word then (λ n. n) me) c.requires.can
+    (λ n _ _. refl) (λ n u t made. (refl, t, made))

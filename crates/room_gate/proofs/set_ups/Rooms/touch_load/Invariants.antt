@@ -3,4 +3,4 @@ use Rattle.room_gate.proofs.set_ups.Rooms.touch_load.Given as goal
 
 abbrev pub ghosts-load_as : goal.ghosts-load_as
 ghosts-load_as g a =
-    record { tells = touched_to g.U.RoomUse.meaning (g.M.Outcome.then a._what.now) (λ n. n) }
+    record { tells = touched_to g.U.RoomUse.meaning a.self.now.usage a.word (g.M.Outcome.then a._what.now) (λ n. n) }

@@ -10,5 +10,5 @@ sub_as-requires-clause-step g c =
     touches_of M g.U.RoomUse.ROOMS g.met.U.RoomUse.laws c.args.self.now
     c.args.word c.requires.word then c.pass.inside c.pass.invariant c.args.pass.now
     c.pass.view_is (λ n. (n + (2 ^ 64 - c.args.by)) % 2 ^ 64) (λ n. n - c.args.by)
-    (λ n. c.args.by ≤ n) (touched_to M then (λ n. n - c.args.by) me) c.requires.can
-    (λ n small low. taken n c.args.by small low) (λ n u t. (refl, t))
+    (λ n. c.args.by ≤ n) (touched_to M c.args.self.now.usage c.args.word then (λ n. n - c.args.by) me) c.requires.can
+    (λ n small low. taken n c.args.by small low) (λ n u t made. (refl, t, made))
