@@ -14,4 +14,5 @@ pub mod Closing
 pub mod Following
 pub mod States
 pub mod Writers
+pub mod Quietly
 pub mod Made

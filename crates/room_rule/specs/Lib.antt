@@ -12,3 +12,4 @@ pub mod Plainly
 pub mod Following
 pub mod States
 pub mod Writers
+pub mod Quietly

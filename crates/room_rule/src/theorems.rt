@@ -2,6 +2,7 @@
 ghost use Rattle.room_rule.specs.Following.{StepsAreActs, DrawsAreActs, LeavesAreActs};
 ghost use Rattle.room_rule.specs.Following.{InsidersKeepIt, HoldersKeepIt, TouchesKeepIt};
 ghost use Rattle.room_rule.specs.States.{InEveryState, InsidersOccupy, OneRoom, NoneByTheKey};
+ghost use Rattle.room_rule.specs.Quietly.{StepsAreQuiet};
 ghost use Rattle.room_rule.specs.Writers.{HoldersStepOnWords, OutsidersChangeTouchWords};
 ghost use Rattle.room_core.specs.Order.{trace_of};
 ghost use Rattle.room_core.specs.Apart.{IsApart};
@@ -26,6 +27,7 @@ pub fn the_table_follows_the_protocol<U: RoomUse>()
     ensures insiders { InsidersKeepIt U.meaning U.ROOMS }
     ensures holders { HoldersKeepIt U.meaning U.ROOMS }
     ensures touches { TouchesKeepIt U.meaning U.ROOMS }
+    ensures quiet { StepsAreQuiet U.meaning U.ROOMS }
     ensures writers { HoldersStepOnWords U.meaning U.ROOMS }
     ensures touch_words { OutsidersChangeTouchWords U.meaning U.ROOMS }
     ensures apart { InEveryState U.meaning U.ROOMS (λ _ moments. IsApart (trace_of moments)) }
