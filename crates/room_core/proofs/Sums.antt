@@ -102,9 +102,13 @@ module _ (n : ℕ) (w : Words) (ps : List Phase) (t : List Item) (made : List �
   pub done_small : (r : ℕ) → get_or w.done r 0 ≤ 2 ^ 54
   done_small r = omega (arith, done_granted w ps t i r, i.granted r, wait_small r)
 
-  pub active_small : w.active < 2 ^ 60
-  active_small =
+  -- the turn is at most one more than the openings, each of which let a ticket in
+  pub active_within : w.active < 2 ^ 58
+  active_within =
       omega (arith, k.turn, k.paid, sums_le w.grant w.wait i.grants i.granted, waits_small)
+
+  pub active_small : w.active < 2 ^ 60
+  active_small = omega (arith, active_within)
 
 pub sums_went : (n c : ℕ) (s : Words) (ps : List Phase) (t : List Item) (made : List ℕ) (p : Phase) (act : Act) (row : Row)
     → n ≤ 64 → Went c s p act row → Inv s ps t → MarkedAt s ps t → c < length ps → phase ps c ≡ p

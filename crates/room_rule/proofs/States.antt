@@ -12,9 +12,12 @@ use Rattle.room_core.specs.Runs.{World, Moment}
 use Rattle.room_core.specs.Trace.{trace, occupant}
 use Rattle.room_core.proofs.Facts.{IsHeld, insider, empty_keyed, sound}
 use Rattle.room_core.proofs.Invariant.{room_inside}
+use Rattle.room_core.proofs.Reached.{run_bounded}
+use Rattle.room_core.proofs.Firsts.{inside_looked}
+use Rattle.room_core.specs.Counters.{IsBounded}
 use Rattle.room_core.proofs.Order.{trace_of-reverse, occupies-reverse}
 use Rattle.room_rule.specs.Use.{Meaning}
-use Rattle.room_rule.specs.States.{InEveryState, ShowsInside, InsidersOccupy, OneRoom, NoneByTheKey}
+use Rattle.room_rule.specs.States.{InEveryState, ShowsInside, InsidersOccupy, OneRoom, NoneByTheKey, IsBoundedAlways, InsidersHaveLooked}
 use Rattle.room_rule.specs.declared.rule.Plan.{Plan}
 use Rattle.room_rule.specs.declared.views.Shown.{Shown}
 use Rattle.room_rule.proofs.Acts.{Table, Rule, mine}
@@ -77,3 +80,13 @@ module _ {X S V : Type 0} (M : Meaning X S V) (m : ℕ) where
       ap is_there ((occupies-reverse c room t).1
       (subst (λ (z : List Item). Occupies z c room) (trace_of-reverse r.world.history) o)) in
       not_true (sym empty ∙ there)
+
+  pub is_bounded_always : IsBoundedAlways M m
+  is_bounded_always k s r =
+      subst (λ (w : World). IsBounded w.state) r.reached.1
+      (run_bounded m k.callers r.reached.0 r.few_rooms r.few_callers)
+
+  pub insiders_have_looked : InsidersHaveLooked M m
+  insiders_have_looked k s r v room turn i =
+      inside_looked m k.callers r.reached.0 v.who room i.ticket turn i.to i.first
+      (ap (λ (w : World). phase_of w.state v.who) r.reached.1 ∙ phase_is k s r v room turn i)

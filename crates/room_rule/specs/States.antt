@@ -1,7 +1,8 @@
 -- What is so of every state that the rule allows, by all that happened up to then.
-use Rattle.std.specs.Prelude.{◌≡◌, ℕ, Option, List, reverse}
+use Rattle.std.specs.Prelude.{◌≡◌, ℕ, Option, Some, List, reverse}
 use Rattle.atomic_table.specs.Table.{State}
 use Rattle.room_core.specs.declared.phases.Phase.TheVariants.{Inside, Exiting}
+use Rattle.room_core.specs.Counters.{IsBounded}
 use Rattle.room_core.specs.Occupants.{Occupies}
 use Rattle.room_core.specs.Order.{trace_of}
 use Rattle.room_core.specs.Runs.{Moment}
@@ -57,3 +58,14 @@ module _ {X S V : Type 0} (M : Meaning X S V) (rooms : ℕ) where
       (v : Shown V) (c room : ℕ)
       → ShowsKey s v
       → Occupies (trace_of (reverse r.world.history)) c room → ⊥
+
+  -- no counter comes near its end
+  abbrev pub IsBoundedAlways : Type 0
+  IsBoundedAlways = (k : Plan X) (s : State (Option S) (Shown V)) (r : Ruled M rooms k s)
+      → IsBounded r.world.state
+
+  -- who shows that it is inside shows the turn of its first look
+  abbrev pub InsidersHaveLooked : Type 0
+  InsidersHaveLooked = (k : Plan X) (s : State (Option S) (Shown V)) (r : Ruled M rooms k s)
+      (v : Shown V) (room turn : ℕ) (i : ShowsInside s v room turn)
+      → (seen : ℕ) × (i.first ≡ Some seen)

@@ -6,7 +6,7 @@ use Rattle.room_core.specs.Choice.{IsCyclic}
 use Rattle.room_core.specs.Bypass.{IsPrompt}
 use Rattle.room_core.proofs.Theorems.{is_apart, exits_once, admits, is_prompt}
 use Rattle.room_core.proofs.Chosen.{run_cyclic}
-use Rattle.room_rule.proofs.States.{in_every_state, insiders_occupy, one_room, none_by_the_key}
+use Rattle.room_rule.proofs.States.{in_every_state, insiders_occupy, one_room, none_by_the_key, is_bounded_always, insiders_have_looked}
 use Rattle.room_rule.proofs.Quietly.{steps_are_quiet}
 use Rattle.room_rule.proofs.Writers.{holders_step_on_words, outsiders_change_touch_words}
 use Rattle.room_rule.proofs.Following.{steps_are_acts, draws_are_acts, leaves_are_acts}
@@ -76,3 +76,9 @@ returns-clause-touch_words g c =
 
 pub returns-clause-quiet : goal.returns-clause-quiet
 returns-clause-quiet g c = steps_are_quiet g.U.RoomUse.meaning g.U.RoomUse.ROOMS g.met.U.RoomUse.laws
+
+pub returns-clause-looked : goal.returns-clause-looked
+returns-clause-looked g c = insiders_have_looked g.U.RoomUse.meaning g.U.RoomUse.ROOMS
+
+pub returns-clause-bounded : goal.returns-clause-bounded
+returns-clause-bounded g c = is_bounded_always g.U.RoomUse.meaning g.U.RoomUse.ROOMS
