@@ -10,7 +10,7 @@ use std::alloc::Global;
 
 impl<T: Drop> DropBox<T> {
     /// Takes the box apart, with the passes of all its callers: the words are 0 and how often the
-    /// bell was rung, and the one slot holds the item that is left. It takes the memory of the
+    /// bell was rung, and there is one slot, which holds an item or none. It takes the memory of the
     /// answer first; where there is none, it hands back the box and the passes.
     pub fn close(
         self,
