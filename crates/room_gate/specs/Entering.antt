@@ -1,6 +1,7 @@
 -- What drawing, polling and learning change.
 use Rattle.std.specs.Prelude.{◌≡◌, ◌≢◌, ℕ, ◌+◌, ◌-◌, ◌^◌, ◌<◌, ◌≤◌, ◌⊎◌, Option, Some, None, MatchOption, List, ◌++◌}
 use Rattle.room_core.specs.declared.items.Opening.{Opening}
+use Rattle.room_core.specs.declared.phases.Phase.TheVariants.{Looking}
 use Rattle.room_core.specs.Active.{code_of, seen as looked}
 use Rattle.room_rule.specs.Openings.{StartsWith, longer, IsAdmitted}
 use Rattle.room_gate.specs.Shows.{Caller, Waiter, Insider}
@@ -28,6 +29,7 @@ module _ {V : Type 0} where
     active = 0;
     found = None;
     known = pass.seen;
+    phase = Looking room ticket None;
   }
 
   -- the pass drew a ticket of the room
@@ -43,6 +45,7 @@ module _ {V : Type 0} where
       grant = after.grant;
       active = after.active;
       found = after.found;
+      phase = Looking w.room w.ticket after.caller.first;
     }
     pub first : after.caller.first ≡ looked w.caller.first after.active
     pub below : after.grant < after.ticket

@@ -14,6 +14,7 @@ waiter_of w = record {
   active = w.active;
   found = w.found;
   known = w.seat.me.0.known;
+  phase = w.seat.me.0.phase;
 }
 
 pub record IsWaiting (rooms : ℕ) {X S V : Type 0} (w : Inside X V S) : Type 0 where

@@ -1,5 +1,6 @@
 //! A caller that waits for a room.
 ghost use Rattle.std.specs.Prelude.{◌≡◌, ◌<◌};
+ghost use Rattle.room_core.specs.declared.phases.Phase.TheVariants as phases;
 
 use atomic_table::Seat;
 use room_rule::{RoomUse, Shown};
@@ -36,6 +37,7 @@ impl<U: RoomUse> Waiting<U> {
     pub fn room(&self) -> usize
         ensures value { result ≡ self.now.room }
         ensures exists { result < U.ROOMS }
+        ensures phase { self.now.phase ≡ phases.Looking self.now.room self.now.ticket self.now.caller.first }
     {
         self.room
     }
