@@ -45,9 +45,11 @@ fn lay_out<U: RoomUse>(alloc: Global, usage: &U, callers: u32) -> Result<Vec<u64
 }
 
 impl<U: RoomUse> Rooms<U> {
-    /// Makes the rooms, whose slots hold None, and a pass for each of `callers` callers, 1 to 64, each with `draws` draws,
-    /// 1 to 2^48. It takes all the memory of the calls on them but `close`. The error is want of
-    /// memory alone; the usage is dropped then.
+    /// Makes the rooms, whose slots hold None, and a pass for each of `callers` callers, up to 64,
+    /// each with `draws` draws, up to 2^48. Where there are no callers there is no pass, and a pass
+    /// with no draws is spent at once. It takes all the memory of the calls on them but `close`. The
+    /// error is want of memory alone; the usage is dropped then. It returns where the usage's
+    /// functions do.
     pub fn set_up(
         alloc: Global,
         usage: U,
