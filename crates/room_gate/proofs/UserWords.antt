@@ -18,9 +18,9 @@ use Rattle.room_gate.specs.KeyModel.{IsKey, holder_of}
 use Rattle.room_gate.specs.RoomsModel.{IsSetUp, site_of}
 use Rattle.room_gate.specs.Stepping.{MayStep, MayExit, MayTouch, HasStepped, Permits, own_of, own_at, InsideAt, ExitAt, TouchAt}
 use Rattle.room_core.specs.declared.phases.Phase.TheVariants.{Inside, Exiting}
-use Rattle.room_gate.specs.declared.set_ups.Rooms.TheInside as rooms
+use Rattle.room_gate.specs.declared.rooms.Rooms.TheInside as rooms
 use Rattle.room_gate.specs.declared.passes.Pass.TheInside as passes
-use Rattle.room_gate.specs.declared.stays.Inside.TheInside as stays
+use Rattle.room_gate.specs.declared.inside.Inside.TheInside as stays
 use Rattle.room_gate.specs.declared.keys.Key.TheInside as keys
 
 -- a number that is taken from another by an add that wraps

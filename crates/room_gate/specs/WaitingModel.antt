@@ -3,7 +3,7 @@ use Rattle.std.specs.Prelude.{◌≡◌, ℕ, ◌<◌, []}
 use Rattle.room_core.specs.declared.phases.Phase.TheVariants.{Looking}
 use Rattle.room_gate.specs.Shows.{Waiter}
 use Rattle.room_gate.specs.PassModel.{seen_of, IsOf}
-use Rattle.room_gate.specs.declared.waits.Waiting.TheInside.{Inside}
+use Rattle.room_gate.specs.declared.waiting.Waiting.TheInside.{Inside}
 
 abbrev pub waiter_of : {X S V : Type 0} → Inside X V S → Waiter V
 waiter_of w = record {

@@ -9,7 +9,7 @@ ghost use Rattle.room_gate.specs.Rows.{Goes};
 
 use crate::keys::Key;
 use crate::passes::Pass;
-use crate::set_ups::Rooms;
+use crate::rooms::Rooms;
 use atomic_table::Seat;
 use room_rule::{Bare, RoomUse, Shown};
 

@@ -5,8 +5,8 @@ ghost use Rattle.room_gate.specs.Leaving.{HasKeyOf};
 
 use crate::keys::Key;
 use crate::passes::Pass;
-use crate::set_ups::Rooms;
-use crate::stays::Inside;
+use crate::rooms::Rooms;
+use crate::inside::Inside;
 use room_rule::RoomUse;
 
 /// What a departure gives.

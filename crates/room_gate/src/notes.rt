@@ -3,9 +3,9 @@ ghost use Rattle.std.specs.Prelude.{◌≡◌};
 ghost use Rattle.room_gate.specs.Entering.{told};
 
 use crate::plays::{Learns, Notes};
-use crate::set_ups::Rooms;
-use crate::stays::Inside;
-use crate::waits::Waiting;
+use crate::rooms::Rooms;
+use crate::inside::Inside;
+use crate::waiting::Waiting;
 use atomic_table::Seat;
 use room_rule::{RoomUse, Shown};
 use std::marker::Model;

@@ -5,9 +5,9 @@ ghost use Rattle.room_rule.specs.Openings.{IsCovered};
 ghost use Rattle.room_gate.specs.Answers.{MatchPolled, IfEntered, IsEntered};
 ghost use Rattle.room_gate.specs.Entering.{Enters, IsHeldOff, IsLetIn};
 
-use crate::set_ups::Rooms;
-use crate::stays::Inside;
-use crate::waits::Waiting;
+use crate::rooms::Rooms;
+use crate::inside::Inside;
+use crate::waiting::Waiting;
 use room_rule::{RoomUse, code_of, pack, turn_of};
 
 /// What a poll gives.

@@ -4,7 +4,7 @@ ghost use Rattle.room_rule.specs.Use.{own};
 ghost use Rattle.room_gate.specs.Stepping.{MayTouch, HasTouched, any, fits_with};
 
 use crate::passes::Pass;
-use crate::set_ups::Rooms;
+use crate::rooms::Rooms;
 use room_rule::{Outcome, RoomUse};
 use std::marker::Brand;
 

@@ -11,7 +11,7 @@ use Rattle.room_rule.specs.Use.{Meaning}
 use Rattle.room_rule.specs.Laws.{Laws}
 use Rattle.room_rule.specs.View.{moved}
 use Rattle.room_rule.specs.Told.{Seated, stepped_by, IsEvent}
-use Rattle.room_rule.specs.Following.{told, MayGo, StepsAreActs, DrawsAreActs, LeavesAreActs}
+use Rattle.room_rule.specs.Following.{number_told, MayGo, StepsAreActs, DrawsAreActs, LeavesAreActs}
 use Rattle.room_rule.specs.Following.{anything, InsidersKeepIt, HoldersKeepIt, TouchesKeepIt}
 use Rattle.room_rule.specs.declared.rule.Plan.{Plan}
 use Rattle.room_rule.specs.declared.views.Role.TheVariants.{Pass}
@@ -33,7 +33,7 @@ module _ {X S V : Type 0} (M : Meaning X S V) (m : ℕ) (laws : Laws M) where
   abbrev IsAct : Plan X → ℕ → ℕ → Seated S V → Move → Type 0
   IsAct k slots id me mv =
       IsEvent M m k slots id me (place m mv.word) (value_of mv.kind)
-      (λ n me'. stepped_by M m me (told mv.kind n) me') Step
+      (λ n me'. stepped_by M m me (number_told mv.kind n) me') Step
 
   -- the step of the row of a phase
   row : (k : Plan X) (slots id : ℕ) (me : Seated S V) (p : Phase) (mv : Move) → me.0.role ≡ Pass

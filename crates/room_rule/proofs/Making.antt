@@ -14,7 +14,7 @@ use Rattle.room_rule.specs.Laws.{Laws}
 use Rattle.room_rule.specs.View.{maker, hired, after_hire}
 use Rattle.room_rule.specs.Quietly.{IsQuiet}
 use Rattle.room_rule.proofs.Acts.{Table, Rule}
-use Rattle.room_rule.specs.Openings.{openings_of}
+use Rattle.room_rule.specs.Openings.{world_openings}
 use Rattle.room_rule.specs.Rule.{Roll, Knows, is_waiting, ShowsKept, Ruled}
 use Rattle.room_rule.specs.declared.rule.Plan.{Plan}
 use Rattle.room_rule.specs.declared.views.Role.{Role}
@@ -189,7 +189,7 @@ module _ {X S V : Type 0} (M : Meaning X S V) (m : ℕ) (k : Plan X) where
         draws = ap (λ (z : ℕ). get_or w.state.draws z 0) num ∙ u.draws;
         user = ap (get_elem? r.content.views) num
             ∙ (u.user ∙ ap (λ (z : ℕ). some (M.starts z)) (sym num));
-        seen = (openings_of w, refl);
+        seen = (world_openings w, refl);
         known = λ i a e. absurd (none_there i a e);
       } in (
         record {

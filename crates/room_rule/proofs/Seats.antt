@@ -4,7 +4,7 @@ use Rattle.atomic_table.specs.Table.{Splits, Joins}
 use Rattle.atomic_table.proofs.Lists.{at_snoc, set_else}
 use Rattle.room_rule.specs.Use.{IsAt, Meaning}
 use Rattle.room_rule.specs.Callers.{after_step}
-use Rattle.room_rule.specs.Openings.{openings_of}
+use Rattle.room_rule.specs.Openings.{world_openings}
 use Rattle.room_rule.specs.View.{noted, learned, gone}
 use Rattle.room_rule.specs.Quietly.{IsQuiet}
 use Rattle.room_rule.specs.Rule.{Knows, ShowsKept, Ruled}
@@ -61,7 +61,7 @@ module _ {X S V : Type 0} (M : Meaning X S V) (m : ℕ) (k : Plan X) where
       → IsQuiet M m k s r (set (set s.views id (learned v w)) other (gone M.starts))
   unfolding with_views
   learns_quietly s r id other v w at was is note =
-      let all = openings_of r.world in let now = learned v w in let end = gone M.starts in
+      let all = world_openings r.world in let now = learned v w in let end = gone M.starts in
       let its = subst (λ (z : Role). Knows r.world r.content.views r.roll other z w) note
       (r.each other w was) in
       let h = mine M m k s r id v at is in

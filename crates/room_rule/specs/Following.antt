@@ -16,9 +16,9 @@ use Rattle.room_rule.specs.declared.views.Role.TheVariants.{Pass}
 use Rattle.room_rule.specs.declared.views.Shown.{Shown}
 
 -- the number that a step tells: the one stored, or else the one found
-abbrev pub told : Kind → ℕ → ℕ
-told (Stores value) n = value
-told _ n = n
+abbrev pub number_told : Kind → ℕ → ℕ
+number_told (Stores value) n = value
+number_told _ n = n
 
 module _ {X S V : Type 0} (M : Meaning X S V) (rooms : ℕ) where
   -- the room exists, and who ends its exit code shows words that rest
@@ -36,7 +36,7 @@ module _ {X S V : Type 0} (M : Meaning X S V) (rooms : ℕ) where
       → move rooms me.0.who me.0.phase ≡ Some mv
       → MayGo k.usage me.0 me.0.phase
       → IsEvent M rooms k slots id me (place rooms mv.word) (value_of mv.kind)
-      (λ n me'. stepped_by M rooms me (told mv.kind n) me') Step
+      (λ n me'. stepped_by M rooms me (number_told mv.kind n) me') Step
 
   -- the add by which a caller that is out draws
   abbrev pub DrawsAreActs : Type 0
