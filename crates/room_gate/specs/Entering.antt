@@ -52,8 +52,8 @@ module _ {V : Type 0} where
     pub barred : IsBarred after.active after.found
 
   -- a caller that waits learned of openings
-  abbrev pub told : Waiter V → List Opening → Waiter V
-  told w openings = record w {
+  abbrev pub taught : Waiter V → List Opening → Waiter V
+  taught w openings = record w {
     caller = record w.caller { seen = longer w.caller.seen openings };
     known = openings ++ w.known;
   }
@@ -61,7 +61,7 @@ module _ {V : Type 0} where
 module _ {S V : Type 0} where
   -- the caller that waited is inside, and keeps no slot: it made one look at the active word, in its
   -- turn or the turn before
-  pub record Enters (w : Waiter V) (i : Insider S V) : Type 0 where
+  pub record HasEntered (w : Waiter V) (i : Insider S V) : Type 0 where
     pub caller : i.caller ≡ record w.caller {
       seen = i.caller.seen;
       first = i.caller.first;

@@ -2,8 +2,8 @@
 ghost use Rattle.std.specs.Prelude.{◌≡◌, ℕ, ◌+◌, ◌-◌, ◌<◌, ◌≤◌};
 ghost use Rattle.room_gate.specs.Stepping.{MayStep, HasStepped, own_of, any, fits_with};
 
-use crate::rooms::Rooms;
 use crate::inside::Inside;
+use crate::rooms::Rooms;
 use room_rule::{Outcome, RoomUse};
 use std::marker::Brand;
 
