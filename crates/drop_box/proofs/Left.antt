@@ -15,7 +15,7 @@ two_words (a ∷ b ∷ c ∷ ws) e = absurd (omega arith)
 
 pub left_of : {X S : Type 0} (x : X) (callers : ℕ) (passes : List (Caller Visit)) (words : List ℕ)
     (slots : List (Option S)) → length passes ≡ callers
-    → gate.IsLeftOver (box_meaning {X = X} {S = S}) x callers (map gate.last_of passes) words slots
+    → gate.IsLeft (box_meaning {X = X} {S = S}) x callers (map gate.last_of passes) words slots
     → IsLeftOver passes words
 left_of x callers passes words slots many left =
     let shows = left.lawful.shows in
