@@ -5,7 +5,7 @@ use Rattle.room_gate.specs.Shows.{Caller}
 use Rattle.room_gate.specs.Closing as gate
 use Rattle.drop_box.specs.declared.uses.Visit.{Visit}
 use Rattle.drop_box.specs.Box.{box_meaning}
-use Rattle.drop_box.specs.Closing.{IsLeft}
+use Rattle.drop_box.specs.Closing.{IsLeftOver}
 
 two_words : (ws : List ℕ) → length ws ≡ 2 → ws ≡ get_or ws 0 0 ∷ get_or ws 1 0 ∷ []
 two_words [] e = absurd (omega arith)
@@ -16,7 +16,7 @@ two_words (a ∷ b ∷ c ∷ ws) e = absurd (omega arith)
 pub left_of : {X S : Type 0} (x : X) (callers : ℕ) (passes : List (Caller Visit)) (words : List ℕ)
     (slots : List (Option S)) → length passes ≡ callers
     → gate.IsLeft (box_meaning {X = X} {S = S}) x callers (map gate.last_of passes) words slots
-    → IsLeft passes words
+    → IsLeftOver passes words
 left_of x callers passes words slots many left =
     let shows = left.lawful.shows in
     let rang = left.lawful.rang in

@@ -7,7 +7,7 @@ use Rattle.drop_box.specs.Box.{rings_of}
 
 -- the turnstile shows 0, and the bell how often the callers of the passes rang; each has one view,
 -- at its number
-pub record IsLeft (passes : List (Caller Visit)) (words : List ℕ) : Type 0 where
+pub record IsLeftOver (passes : List (Caller Visit)) (words : List ℕ) : Type 0 where
   pub views : List Visit
   pub crowd : length views ≡ length passes
   pub each : (i : ℕ) (p : Caller Visit) → IsAt passes i p → IsAt views p.who p.user

@@ -26,8 +26,8 @@ impl<T: Drop> Model for DropBox<T> {
 }
 
 impl<T: Drop> DropBox<T> {
-    /// Makes an empty box and a pass for each of `callers` callers, 1 to 64, each with `draws`
-    /// visits, 1 to 2^48. The error is want of memory alone.
+    /// Makes an empty box and a pass for each of `callers` callers, up to 64, each with `draws`
+    /// visits, up to 2^48. The error is want of memory alone.
     pub fn set_up(
         alloc: Global,
         callers: u32,

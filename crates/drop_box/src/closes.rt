@@ -1,7 +1,7 @@
 //! The close of a box.
 ghost use Rattle.std.specs.Prelude.{◌≡◌, length, IfOk, IfErr};
 ghost use Rattle.room_gate.specs.Closing.{AreAll};
-ghost use Rattle.drop_box.specs.Closing.{IsLeft};
+ghost use Rattle.drop_box.specs.Closing.{IsLeftOver};
 
 use crate::boxes::DropBox;
 use crate::uses::BoxUse;
@@ -10,7 +10,7 @@ use std::alloc::Global;
 
 impl<T: Drop> DropBox<T> {
     /// Takes the box apart, with the passes of all its callers: the words are 0 and how often the
-    /// bell was rung, and the one slot holds the item that is left. It takes the memory of the
+    /// bell was rung, and there is one slot, which holds an item or none. It takes the memory of the
     /// answer first; where there is none, it hands back the box and the passes.
     pub fn close(
         self,
@@ -18,7 +18,7 @@ impl<T: Drop> DropBox<T> {
         passes: Vec<Pass<BoxUse<T>>>,
     ) -> Result<Final<BoxUse<T>>, (DropBox<T>, Vec<Pass<BoxUse<T>>>)>
         requires { AreAll self.site self.callers passes.items }
-        ensures words { IfOk result (λ f. IsLeft passes.items f.words.items) }
+        ensures words { IfOk result (λ f. IsLeftOver passes.items f.words.items) }
         ensures slot { IfOk result (λ f. length f.slots.items ≡ 1) }
         ensures back { IfErr result (λ b. (b.0 ≡ self) × (b.1 ≡ passes)) }
     {

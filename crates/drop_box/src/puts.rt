@@ -22,6 +22,9 @@ pub enum Put<T> {
 impl<T: Drop> DropBox<T> {
     /// Puts the item into the box, if it is empty and no other caller came first in the turn. It
     /// waits for its turn, and takes no memory.
+    ///
+    /// The contract says that an item which was not stored is handed back, and that the pass is the
+    /// same caller's; that a stored one is in the slot is seen in the code.
     pub fn put<R: Wait>(&self, rt: &R, pass: Pass<BoxUse<T>>, item: T) -> (Pass<BoxUse<T>>, Put<T>)
         requires { pass.site ≡ self.now.site }
         ensures same { SameCaller pass result.0 }

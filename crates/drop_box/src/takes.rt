@@ -22,6 +22,9 @@ pub enum Taken<T> {
 impl<T: Drop> DropBox<T> {
     /// Takes the item out of the box, if there is one and no other caller came first in the turn.
     /// It waits for its turn, and takes no memory.
+    ///
+    /// The contract says that the pass is the same caller's, with one visit more unless it was
+    /// spent; that the item is that of the slot is seen in the code.
     pub fn take<R: Wait>(&self, rt: &R, pass: Pass<BoxUse<T>>) -> (Pass<BoxUse<T>>, Taken<T>)
         requires { pass.site ≡ self.now.site }
         ensures same { SameCaller pass result.0 }

@@ -31,3 +31,4 @@ pub mod Awake
 pub mod Refusing
 pub mod Theorems
 pub mod Running
+pub mod Firsts

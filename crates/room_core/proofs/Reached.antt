@@ -12,6 +12,7 @@ use Rattle.room_core.specs.Words.{Words, CanTouch}
 use Rattle.room_core.specs.Machine.{Row, row_of, after, State, phase_of, acting}
 use Rattle.room_core.specs.Active.{code_of}
 use Rattle.room_core.specs.Trace.{is_exiting, trace}
+use Rattle.room_core.specs.Counters.{IsBounded}
 use Rattle.room_core.specs.Runs.{World, carried, happens, run, start}
 use Rattle.room_core.specs.Core.{IsReached, IsSized, IsSmall, IsNamed}
 use Rattle.room_core.proofs.Lists.{within}
@@ -20,7 +21,7 @@ use Rattle.room_core.proofs.Due.{Named}
 use Rattle.room_core.proofs.Told.{moment}
 use Rattle.room_core.proofs.Went.{by_happens_is, by_row_is, draw_free}
 use Rattle.room_core.proofs.Apart.{Good, happens_kept, start_good, outs, zeros}
-use Rattle.room_core.proofs.Sums.{SumsAt, IdleAt, sums_went, can_touch, wait_small, done_small, active_small}
+use Rattle.room_core.proofs.Sums.{SumsAt, IdleAt, sums_went, can_touch, wait_small, done_small, active_small, active_within}
 use Rattle.room_core.proofs.Whole.{More, more_kept, start_more}
 use Rattle.room_core.proofs.Late.{Late, LateAt, late_went}
 use Rattle.room_core.proofs.Leavers.{LeftLast, LeaverAt, leaver_went}
@@ -107,6 +108,22 @@ reached_small s k =
             done_small k.callers w s.phases (trace k.history) s.draws k.crowd a.good.inv a.sums r,
           );
       drawn = a.sums.most;
+    }
+
+-- so the counters of a run are bounded
+pub run_bounded : (rooms callers : ℕ) (acts : List (ℕ × Act)) → rooms ≤ 7 → callers ≤ 64
+    → IsBounded (run acts (start rooms callers)).state
+run_bounded rooms callers acts few crowd =
+    let w = run acts (start rooms callers) in let s = w.state.words in
+    let t = trace w.history in
+    let a = run_sound rooms callers acts (start rooms callers) crowd (start_sound rooms callers few) in
+    let waits = wait_small callers s w.state.phases t w.state.draws crowd a.good.inv a.sums in
+    record {
+      wait = waits;
+      grant = λ r. omega (arith, a.good.inv.granted r, waits r);
+      done = done_small callers s w.state.phases t w.state.draws crowd a.good.inv a.sums;
+      active = active_within callers s w.state.phases t w.state.draws crowd a.good.inv a.sums;
+      draws = a.sums.most;
     }
 
 named_by : (m : ℕ) (s : Words) (now : Bool) (p : Phase) → length s.wait ≡ m → code_of s.active ≤ m

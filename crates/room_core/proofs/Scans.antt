@@ -15,7 +15,7 @@ use Rattle.room_core.specs.declared.items.Item.TheVariants.{ExitEnded}
 use Rattle.room_core.specs.Words.{Words}
 use Rattle.room_core.specs.Machine.{Row, next_room}
 use Rattle.room_core.specs.Runs.{Moment, World, happens}
-use Rattle.room_core.specs.Choice.{steps_of, Stores, Scan, ends, ends_between, goes_on, passes_on, rests}
+use Rattle.room_core.specs.Choice.{steps_of, StoresNext, Scan, ends, ends_between, goes_on, passes_on, rests}
 use Rattle.room_core.specs.Trace.{is_exiting, trace}
 use Rattle.room_core.proofs.Lists.{within}
 use Rattle.room_core.proofs.Invariant.{phase, Fits, Inv}
@@ -55,8 +55,8 @@ Scanner r _ = ⊥
 abbrev Next : ℕ → ℕ → Phase → List Touch → Type 0
 Next rooms r (Peering room turn k w) later = Scan rooms r k (Load (Wait k) w ∷ later)
 Next rooms r (Scanning room turn k) later = Scan rooms r k later
-Next rooms r (Passing turn None) later = Stores 0 later
-Next rooms r (Passing turn (Some k)) later = Stores (k + 1) later
+Next rooms r (Passing turn None) later = StoresNext 0 later
+Next rooms r (Passing turn (Some k)) later = StoresNext (k + 1) later
 Next rooms r _ later = Unit {0}
 
 -- the steps so far are those of a scan that goes on, or of one that is done

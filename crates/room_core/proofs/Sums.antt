@@ -10,7 +10,7 @@ use Rattle.room_core.specs.declared.phases.Phase.TheVariants.{Out, Looking, Seiz
 use Rattle.room_core.specs.declared.items.Item.{Item}
 use Rattle.room_core.specs.declared.acts.Act.TheVariants.{Draw}
 use Rattle.room_core.specs.Words.{Words, touched, CanTouch}
-use Rattle.room_core.specs.Machine.{Row, counted}
+use Rattle.room_core.specs.Machine.{Row, draws_after}
 use Rattle.room_core.specs.Active.{turn_of, pack, seen}
 use Rattle.room_core.specs.Trace.{is_exiting, is_closing, trace, onto, last_opening, openings}
 use Rattle.room_core.specs.Runs.{World}
@@ -102,14 +102,18 @@ module _ (n : ℕ) (w : Words) (ps : List Phase) (t : List Item) (made : List �
   pub done_small : (r : ℕ) → get_or w.done r 0 ≤ 2 ^ 54
   done_small r = omega (arith, done_granted w ps t i r, i.granted r, wait_small r)
 
-  pub active_small : w.active < 2 ^ 60
-  active_small =
+  -- the turn is at most one more than the openings, each of which let a ticket in
+  pub active_within : w.active < 2 ^ 58
+  active_within =
       omega (arith, k.turn, k.paid, sums_le w.grant w.wait i.grants i.granted, waits_small)
+
+  pub active_small : w.active < 2 ^ 60
+  active_small = omega (arith, active_within)
 
 pub sums_went : (n c : ℕ) (s : Words) (ps : List Phase) (t : List Item) (made : List ℕ) (p : Phase) (act : Act) (row : Row)
     → n ≤ 64 → Went c s p act row → Inv s ps t → MarkedAt s ps t → c < length ps → phase ps c ≡ p
     → ((r : ℕ) → act ≡ Draw r → get_or made c 0 ≢ 2 ^ 48) → Sums n s ps made (openings t)
-    → Sums n (touched s row.1.touch) (set ps c row.0) (counted made c act)
+    → Sums n (touched s row.1.touch) (set ps c row.0) (draws_after made c act)
     (openings (onto row.1.two (onto row.1.one t)))
 sums_went n c s ps t made p act row few (drawn r hr) i m h e free k =
     let hm : c < length made = omega (arith, h, k.phases, k.makers) in

@@ -15,10 +15,10 @@ abbrev pub steps_of : ℕ → List Moment → List Touch
 steps_of c moments = map (λ m. m.event.touch) (filter (λ m. m.caller == c) moments)
 
 -- the next step stores an active word with this code, unless the run ends
-abbrev pub Stores : ℕ → List Touch → Type 0
-Stores code [] = Unit {0}
-Stores code (Store Active word ∷ later) = code_of word ≡ code
-Stores code _ = ⊥
+abbrev pub StoresNext : ℕ → List Touch → Type 0
+StoresNext code [] = Unit {0}
+StoresNext code (Store Active word ∷ later) = code_of word ≡ code
+StoresNext code _ = ⊥
 
 -- How a leaver of room r looks at the rooms from k on, round: at the wait of each, and then at its
 -- grant. The run may end at any step.
@@ -30,10 +30,10 @@ pub data Scan (rooms r : ℕ) : ℕ → List Touch → Type 0 where
       → Scan rooms r ((k + 1) % rooms) later
       → Scan rooms r k (Load (Wait k) w ∷ Load (Grant k) g ∷ later)
   -- somebody to let in: it passes on to this room
-  passes_on : (k w g : ℕ) (later : List Touch) → g < w → Stores (k + 1) later
+  passes_on : (k w g : ℕ) (later : List Touch) → g < w → StoresNext (k + 1) later
       → Scan rooms r k (Load (Wait k) w ∷ Load (Grant k) g ∷ later)
   -- nobody to let in anywhere: it makes the active word idle
-  rests : (k w g : ℕ) (later : List Touch) → w ≤ g → k ≡ r → Stores 0 later
+  rests : (k w g : ℕ) (later : List Touch) → w ≤ g → k ≡ r → StoresNext 0 later
       → Scan rooms r k (Load (Wait k) w ∷ Load (Grant k) g ∷ later)
 
 -- what each leaver's scan says, and what it leads to

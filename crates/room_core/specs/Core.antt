@@ -18,12 +18,12 @@ abbrev pub state_after : State → ℕ → Act → Result Row Refused → State
 state_after s c act (Ok row) = after s c act row
 state_after s c act (Err why) = s
 
--- a caller that waits for its turn to enter
-abbrev pub is_waiting : Phase → Bool
-is_waiting (Looking room ticket first) = true
-is_waiting (Glancing room ticket first) = true
-is_waiting (Seizing room ticket first idle) = true
-is_waiting _ = false
+-- a caller that has not seized the active word
+abbrev pub is_trying : Phase → Bool
+is_trying (Looking room ticket first) = true
+is_trying (Glancing room ticket first) = true
+is_trying (Seizing room ticket first idle) = true
+is_trying _ = false
 
 -- a caller that left last, and has not passed on yet
 abbrev pub is_leaving : Phase → Bool

@@ -17,3 +17,4 @@ pub mod Wrong
 pub mod Trace
 pub mod Gate
 pub mod Core
+pub mod Counters

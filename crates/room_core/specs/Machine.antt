@@ -71,14 +71,14 @@ acting s c p Leave = leaving_from s c p
 abbrev pub row_of : State → ℕ → Act → Result Row Refused
 row_of s c act = if nat_lt c (length s.phases) then acting s c (phase_of s c) act else Err NoCaller
 
-abbrev pub counted : List ℕ → ℕ → Act → List ℕ
-counted draws c (Draw r) = slice_set draws c (slice_index draws c + 1)
-counted draws c Step = draws
-counted draws c Leave = draws
+abbrev pub draws_after : List ℕ → ℕ → Act → List ℕ
+draws_after draws c (Draw r) = slice_set draws c (slice_index draws c + 1)
+draws_after draws c Step = draws
+draws_after draws c Leave = draws
 
 abbrev pub after : State → ℕ → Act → Row → State
 after s c act row = record {
   words = touched s.words row.1.touch;
   phases = slice_set s.phases c row.0;
-  draws = counted s.draws c act;
+  draws = draws_after s.draws c act;
 }

@@ -1,5 +1,5 @@
 // Laws of every run: each is the contract of a function that does nothing.
-ghost use Rattle.std.specs.Prelude.{ℕ, ◌≤◌, ◌+◌, ◌≡◌, ◌↔◌, List, reverse, Some};
+ghost use Rattle.std.specs.Prelude.{ℕ, ◌≤◌, ◌+◌, ◌≡◌, ◌↔◌, List, reverse, Option, Some};
 ghost use Rattle.room_core.specs.Machine.{phase_of};
 ghost use Rattle.room_core.specs.Runs.{Moment, run, start};
 ghost use Rattle.room_core.specs.Trace.{trace, occupant, last_opening, all_opened};
@@ -11,6 +11,7 @@ ghost use Rattle.room_core.specs.ExitOnce.{IsOncePerOpening};
 ghost use Rattle.room_core.specs.Admission.{IsAdmission};
 ghost use Rattle.room_core.specs.Choice.{IsCyclic};
 ghost use Rattle.room_core.specs.Bypass.{IsPrompt};
+ghost use Rattle.room_core.specs.Counters.{IsBounded};
 ghost use Rattle.room_core.specs.Wrong.{two_rooms, early_exit, no_opening, own_room_first, passed_by};
 
 use crate::acts::Act;
@@ -43,12 +44,23 @@ pub fn every_run_is_prompt()
     ensures { InEveryRun IsPrompt }
 {}
 
-/// Who is inside got in at most as many turns after its first look as there are rooms.
+/// Who is inside has looked since its draw, and got in at most as many turns after its first look as
+/// there are rooms.
 pub fn nobody_is_passed()
-    ensures { (rooms callers : ℕ) (acts : List (ℕ × Act)) → rooms ≤ 7
+    ensures looked { (rooms callers : ℕ) (acts : List (ℕ × Act))
+        → (c room ticket turn to : ℕ) (first : Option ℕ) → let s = (run acts (start rooms callers)).state in
+        phase_of s c ≡ Phase.Inside room ticket first turn to
+        → (seen : ℕ) × (first ≡ Some seen) }
+    ensures passed { (rooms callers : ℕ) (acts : List (ℕ × Act)) → rooms ≤ 7
         → (c room ticket first turn to : ℕ) → let s = (run acts (start rooms callers)).state in
         phase_of s c ≡ Phase.Inside room ticket (Some first) turn to
         → (first ≤ turn) × (turn ≤ first + rooms) }
+{}
+
+/// No counter of a run of 1 to 7 rooms and up to 64 callers comes near its end.
+pub fn every_run_is_bounded()
+    ensures { (rooms callers : ℕ) (acts : List (ℕ × Act)) → rooms ≤ 7 → callers ≤ 64
+        → IsBounded (run acts (start rooms callers)).state }
 {}
 
 /// What is told of a trace from its latest item back, as the gate is, is what it says in its order.

@@ -1,10 +1,10 @@
 ghost use Rattle.std.specs.Prelude.{◌≡◌, ◌↔◌, false, ℕ, ◌<◌, ◌≤◌, ◌^◌, length, slice_index, slice_get, Err, IfOk, OnErr, IsNone, IsSome, IfSome};
 ghost use Rattle.std.specs.Option.{option_copied};
 ghost use Rattle.room_core.specs.Words.{CanTouch, HasWord, held};
-ghost use Rattle.room_core.specs.Machine.{row_of, acting, drawing_from, leaving_from, stepping, counted};
+ghost use Rattle.room_core.specs.Machine.{row_of, acting, drawing_from, leaving_from, stepping, draws_after};
 ghost use Rattle.room_core.specs.Runs.{start};
 ghost use Rattle.room_core.specs.Refusals.{Refuses};
-ghost use Rattle.room_core.specs.Core.{event_of, state_after, is_leaving, is_waiting, IsNamed, IsSized, IsSmall};
+ghost use Rattle.room_core.specs.Core.{event_of, state_after, is_leaving, is_trying, IsNamed, IsSized, IsSmall};
 
 use crate::acts::{Act, Refused};
 use crate::items::Event;
@@ -234,7 +234,7 @@ impl Core {
         requires caller { caller < 64 }
         requires sized { IsSized self.now }
         requires enters { is_leaving phase ≡ false }
-        requires opens { is_waiting phase ≡ false }
+        requires opens { is_trying phase ≡ false }
         ensures { result ≡ stepping self.now.words caller phase }
     {
         match phase {
@@ -286,7 +286,7 @@ impl Core {
 fn count_draw(draws: &mut Vec<u64>, caller: usize, act: Act)
     requires caller { caller < length draws.old.items }
     requires small { slice_index draws.old.items caller ≤ 2 ^ 48 }
-    ensures { draws.new.items ≡ counted draws.old.items caller act }
+    ensures { draws.new.items ≡ draws_after draws.old.items caller act }
 {
     if let Act::Draw(_) = act {
         draws[caller] += 1;

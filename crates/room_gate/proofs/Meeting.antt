@@ -14,7 +14,7 @@ use Rattle.room_rule.specs.Looking.{Finds, looked_by}
 use Rattle.room_rule.specs.declared.views.Shown.{Shown}
 use Rattle.room_gate.specs.InsideModel.{IsInside}
 use Rattle.room_gate.specs.Meeting.{IsIn, met}
-use Rattle.room_gate.specs.declared.stays.Inside.TheInside.{Inside}
+use Rattle.room_gate.specs.declared.inside.Inside.TheInside.{Inside}
 
 -- lists as long as each other, where what stands in the one stands there in the other
 by_places : {A : Type 0} (l n : List A) → length l ≡ length n

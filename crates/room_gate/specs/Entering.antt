@@ -1,6 +1,7 @@
 -- What drawing, polling and learning change.
 use Rattle.std.specs.Prelude.{◌≡◌, ◌≢◌, ℕ, ◌+◌, ◌-◌, ◌^◌, ◌<◌, ◌≤◌, ◌⊎◌, Option, Some, None, MatchOption, List, ◌++◌}
 use Rattle.room_core.specs.declared.items.Opening.{Opening}
+use Rattle.room_core.specs.declared.phases.Phase.TheVariants.{Looking}
 use Rattle.room_core.specs.Active.{code_of, seen as looked}
 use Rattle.room_rule.specs.Openings.{StartsWith, longer, IsAdmitted}
 use Rattle.room_gate.specs.Shows.{Caller, Waiter, Insider}
@@ -28,6 +29,7 @@ module _ {V : Type 0} where
     active = 0;
     found = None;
     known = pass.seen;
+    phase = Looking room ticket None;
   }
 
   -- the pass drew a ticket of the room
@@ -43,14 +45,15 @@ module _ {V : Type 0} where
       grant = after.grant;
       active = after.active;
       found = after.found;
+      phase = Looking w.room w.ticket after.caller.first;
     }
     pub first : after.caller.first ≡ looked w.caller.first after.active
     pub below : after.grant < after.ticket
     pub barred : IsBarred after.active after.found
 
   -- a caller that waits learned of openings
-  abbrev pub told : Waiter V → List Opening → Waiter V
-  told w openings = record w {
+  abbrev pub taught : Waiter V → List Opening → Waiter V
+  taught w openings = record w {
     caller = record w.caller { seen = longer w.caller.seen openings };
     known = openings ++ w.known;
   }
@@ -58,7 +61,7 @@ module _ {V : Type 0} where
 module _ {S V : Type 0} where
   -- the caller that waited is inside, and keeps no slot: it made one look at the active word, in its
   -- turn or the turn before
-  pub record Enters (w : Waiter V) (i : Insider S V) : Type 0 where
+  pub record HasEntered (w : Waiter V) (i : Insider S V) : Type 0 where
     pub caller : i.caller ≡ record w.caller {
       seen = i.caller.seen;
       first = i.caller.first;

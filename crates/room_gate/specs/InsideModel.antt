@@ -6,7 +6,7 @@ use Rattle.room_rule.specs.Told.{held_in, Carries}
 use Rattle.room_rule.specs.Openings.{latest, IsAdmitted}
 use Rattle.room_gate.specs.Shows.{Insider}
 use Rattle.room_gate.specs.PassModel.{seen_of, IsOf}
-use Rattle.room_gate.specs.declared.stays.Inside.TheInside.{Inside}
+use Rattle.room_gate.specs.declared.inside.Inside.TheInside.{Inside}
 
 -- the opening by which it is inside is the latest that it has seen
 abbrev pub insider_of : {X S V : Type 0} → Inside X V S → Insider S V

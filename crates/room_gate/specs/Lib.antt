@@ -5,6 +5,7 @@ pub mod Answers
 pub mod Closing
 pub mod Together
 pub mod Rows
+pub mod Tries
 pub mod PassModel
 pub mod WaitingModel
 pub mod InsideModel

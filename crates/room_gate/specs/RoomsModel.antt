@@ -2,7 +2,7 @@
 use Rattle.std.specs.Prelude.{◌≡◌, ℕ, ◌+◌, ◌*◌, ◌^◌, ◌<◌, ◌≤◌}
 use Rattle.room_rule.specs.Use.{Meaning}
 use Rattle.room_gate.specs.Shows.{Site}
-use Rattle.room_gate.specs.declared.set_ups.Rooms.TheInside.{Inside}
+use Rattle.room_gate.specs.declared.rooms.Rooms.TheInside.{Inside}
 
 abbrev pub site_of : {X S V : Type 0} → Inside X V S → Site X
 site_of r = record {

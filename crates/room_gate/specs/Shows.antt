@@ -2,6 +2,7 @@
 use Rattle.std.specs.Prelude.{ℕ, Option, None, List, []}
 use Rattle.atomic_table.specs.Seated.{TableId}
 use Rattle.room_core.specs.declared.items.Opening.{Opening}
+use Rattle.room_core.specs.declared.phases.Phase.{Phase}
 
 -- Rooms: which set-up it is, what it is used for, and how many callers it has
 pub record Site (X : Type 0) : Type 0 where
@@ -38,6 +39,8 @@ pub record Waiter (V : Type 0) : Type 0 where
   pub found : Option ℕ
   -- the openings that it knows of: those seen at its draw, and those of the notes learned since
   pub known : List Opening
+  -- its phase in the protocol
+  pub phase : Phase
 
 -- A caller that is inside, by an opening
 pub record Insider (S V : Type 0) : Type 0 where

@@ -3,7 +3,7 @@ use Rattle.std.specs.Prelude.{◌≡◌, ℕ, ◌<◌, []}
 use Rattle.room_core.specs.declared.phases.Phase.TheVariants.{Looking}
 use Rattle.room_gate.specs.Shows.{Waiter}
 use Rattle.room_gate.specs.PassModel.{seen_of, IsOf}
-use Rattle.room_gate.specs.declared.waits.Waiting.TheInside.{Inside}
+use Rattle.room_gate.specs.declared.waiting.Waiting.TheInside.{Inside}
 
 abbrev pub waiter_of : {X S V : Type 0} → Inside X V S → Waiter V
 waiter_of w = record {
@@ -14,6 +14,7 @@ waiter_of w = record {
   active = w.active;
   found = w.found;
   known = w.seat.me.0.known;
+  phase = w.seat.me.0.phase;
 }
 
 pub record IsWaiting (rooms : ℕ) {X S V : Type 0} (w : Inside X V S) : Type 0 where

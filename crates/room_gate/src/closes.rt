@@ -9,7 +9,7 @@ ghost use Rattle.room_gate.specs.Closing.{AreAll, last_of, IsLeft};
 
 use crate::passes::Pass;
 use crate::plays::{Keeps, TakesIn};
-use crate::set_ups::Rooms;
+use crate::rooms::Rooms;
 use atomic_table::{Closed, Seat};
 use room_rule::{Plan, RoomUse, Shown};
 use std::alloc::{AllocError, Global};

@@ -5,8 +5,8 @@ ghost use Rattle.room_gate.specs.Entering.{IsDrawn};
 
 use crate::passes::Pass;
 use crate::plays::Draws;
-use crate::set_ups::Rooms;
-use crate::waits::Waiting;
+use crate::rooms::Rooms;
+use crate::waiting::Waiting;
 use room_rule::{RoomUse, wait_place};
 
 /// What a draw gives.

@@ -5,11 +5,11 @@ ghost use Rattle.room_gate.specs.Entering.{IsLetIn};
 ghost use Rattle.room_gate.specs.GoingIn.{GoesIn, IsThrough};
 
 use crate::draws::Drawn;
+use crate::inside::Inside;
 use crate::passes::Pass;
 use crate::polls::Polled;
-use crate::set_ups::Rooms;
-use crate::stays::Inside;
-use crate::waits::Waiting;
+use crate::rooms::Rooms;
+use crate::waiting::Waiting;
 use crossbeam_utils::Backoff;
 use room_rule::RoomUse;
 use std::sync::Wait;

@@ -9,7 +9,7 @@ ghost use Rattle.room_gate.specs.Rows.{Goes};
 
 use crate::keys::Key;
 use crate::passes::Pass;
-use crate::set_ups::Rooms;
+use crate::rooms::Rooms;
 use atomic_table::Seat;
 use room_rule::{Bare, RoomUse, Shown};
 
@@ -19,7 +19,8 @@ pub trait ExitCode<U: RoomUse> {
     ghost ran: { U.View → U.View → Type 0 };
 
     /// Runs the exit code: it may step on the user words through the key, and leaves them so that
-    /// they need no exit code any more.
+    /// they need no exit code any more. No clause says that it returns: while it does not, and for
+    /// ever where it aborts, its caller keeps the key, and no other room opens.
     fn run(&mut self, rooms: &Rooms<U>, key: &mut Key<U>)
         requires own { key.old.caller.site ≡ rooms.now.site }
         requires may { U.meaning.may_leave rooms.now.usage key.old.caller.user }
@@ -75,9 +76,9 @@ impl<U: RoomUse> Rooms<U> {
     /// Runs the exit code once, then passes the turn on: of the rooms after this one in their
     /// order, round to this one itself, it opens the first for which more tickets were drawn than
     /// let in, and where there is none it makes the active word idle. The pass has seen the openings
-    /// that the key's caller had seen, and not the one that it makes here for others. Beside the
-    /// steps of the exit code it makes at most 2 · ROOMS + 3 steps, waits for nobody and takes no
-    /// memory.
+    /// that the key's caller had seen, and not the one that it makes here for others. Where the exit
+    /// code returns, it makes at most 2 · ROOMS + 3 steps beside those of the exit code, waits for
+    /// nobody and takes no memory.
     pub fn finish<E: ExitCode<U>>(&self, key: Key<U>, exit: &mut E) -> Pass<U>
         requires own { key.caller.site ≡ self.now.site }
         requires may { U.meaning.may_leave self.now.usage key.caller.user }

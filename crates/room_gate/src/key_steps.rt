@@ -1,10 +1,10 @@
 //! Steps of the key's holder on the user words.
 ghost use Rattle.std.specs.Prelude.{◌≡◌, ℕ, ◌<◌, false, None, slice_index, slice_set};
 ghost use Rattle.room_rule.specs.Use.{own};
-ghost use Rattle.room_gate.specs.Stepping.{MayExit};
+ghost use Rattle.room_gate.specs.Stepping.{MayExit, HasExited};
 
 use crate::keys::Key;
-use crate::set_ups::Rooms;
+use crate::rooms::Rooms;
 use room_rule::{Outcome, RoomUse};
 use std::marker::Brand;
 
@@ -17,6 +17,7 @@ impl<U: RoomUse> Rooms<U> {
         requires can { MayExit U.meaning self.now.usage key.old word (λ n. n) (M.then what.now) }
         ensures shown { U.meaning.is_touch self.now.usage word ≡ false → result ≡ slice_index key.old.words word }
         ensures told { M.then what.now (own key.old.caller.user None) result result (own key.new.caller.user None) }
+        ensures allowed { HasExited U.meaning self.now.usage key.old word result result key.new }
         ensures same { key.new ≡ record key.old { caller = record key.old.caller { user = key.new.caller.user } } }
     {
         self.load_as::<Brand, M>(&mut key.seat, word, what)
@@ -27,7 +28,7 @@ impl<U: RoomUse> Rooms<U> {
         requires own { key.old.caller.site ≡ self.now.site }
         requires word { word < U.meaning.words self.now.usage }
         requires can { MayExit U.meaning self.now.usage key.old word (λ _. value) (M.then what.now) }
-        ensures told { (old : ℕ) × (U.meaning.is_touch self.now.usage word ≡ false → old ≡ slice_index key.old.words word) × M.then what.now (own key.old.caller.user None) old value (own key.new.caller.user None) }
+        ensures told { (old : ℕ) × (U.meaning.is_touch self.now.usage word ≡ false → old ≡ slice_index key.old.words word) × M.then what.now (own key.old.caller.user None) old value (own key.new.caller.user None) × HasExited U.meaning self.now.usage key.old word old value key.new }
         ensures same { key.new ≡ record key.old { caller = record key.old.caller { user = key.new.caller.user }; words = slice_set key.old.words word value } }
     {
         self.store_as::<Brand, M>(&mut key.seat, word, value, what);

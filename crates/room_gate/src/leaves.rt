@@ -3,10 +3,10 @@ ghost use Rattle.std.specs.Prelude.{◌≡◌, ◌≢◌, ◌+◌};
 ghost use Rattle.room_gate.specs.Answers.{MatchLeft};
 ghost use Rattle.room_gate.specs.Leaving.{HasKeyOf};
 
+use crate::inside::Inside;
 use crate::keys::Key;
 use crate::passes::Pass;
-use crate::set_ups::Rooms;
-use crate::stays::Inside;
+use crate::rooms::Rooms;
 use room_rule::RoomUse;
 
 /// What a departure gives.

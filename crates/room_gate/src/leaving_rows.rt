@@ -8,7 +8,7 @@ ghost use Rattle.room_gate.specs.Rows.{Goes};
 ghost use Rattle.room_gate.specs.LeavingRows.{departed, scanned, peered, passed_on, went_out};
 
 use crate::plays::{Leaves, Steps};
-use crate::set_ups::Rooms;
+use crate::rooms::Rooms;
 use atomic_table::Seat;
 use room_rule::{ACTIVE_PLACE, RoomUse, Shown, done_place, grant_place, pack, wait_place};
 

@@ -3,9 +3,9 @@ ghost use Rattle.std.specs.Prelude.{◌≡◌, ◌+◌};
 ghost use Rattle.room_rule.specs.Looking.{looked_by};
 ghost use Rattle.room_rule.specs.declared.views.Role.TheVariants as roles;
 
+use crate::inside::Inside;
 use crate::plays::Looks;
-use crate::set_ups::Rooms;
-use crate::stays::Inside;
+use crate::rooms::Rooms;
 use atomic_table::Seat;
 use room_rule::{ACTIVE_PLACE, RoomUse, Shown, code_of, turn_of};
 

@@ -2,9 +2,9 @@
 ghost use Rattle.std.specs.Prelude.{◌≡◌, ℕ, ◌+◌};
 ghost use Rattle.room_gate.specs.Meeting.{IsIn, met};
 
+use crate::inside::Inside;
 use crate::plays::{Learns, Notes};
-use crate::set_ups::Rooms;
-use crate::stays::Inside;
+use crate::rooms::Rooms;
 use atomic_table::Seat;
 use room_rule::{RoomUse, Shown};
 

@@ -1,11 +1,11 @@
 //! Notes: the openings that one caller has seen, for another.
 ghost use Rattle.std.specs.Prelude.{◌≡◌};
-ghost use Rattle.room_gate.specs.Entering.{told};
+ghost use Rattle.room_gate.specs.Entering.{taught};
 
+use crate::inside::Inside;
 use crate::plays::{Learns, Notes};
-use crate::set_ups::Rooms;
-use crate::stays::Inside;
-use crate::waits::Waiting;
+use crate::rooms::Rooms;
+use crate::waiting::Waiting;
 use atomic_table::Seat;
 use room_rule::{RoomUse, Shown};
 use std::marker::Model;
@@ -45,7 +45,7 @@ impl<U: RoomUse> Rooms<U> {
     pub fn learn(&self, waiting: &mut Waiting<U>, note: Note<U>)
         requires own { waiting.old.caller.site ≡ self.now.site }
         requires note { note.site ≡ self.now.site }
-        ensures { waiting.new ≡ told waiting.old note.openings }
+        ensures { waiting.new ≡ taught waiting.old note.openings }
     {
         let Note { seat } = note;
         self.table

@@ -8,7 +8,7 @@ ghost use Rattle.room_rule.specs.Told.{ComesIn, Carries};
 ghost use Rattle.room_gate.specs.Rows.{Goes, looked, glanced, seized, counted, admitted, turned_in};
 
 use crate::plays::Steps;
-use crate::set_ups::Rooms;
+use crate::rooms::Rooms;
 use atomic_table::Seat;
 use room_rule::{ACTIVE_PLACE, RoomUse, Shown, grant_place, pack, turn_of, wait_place};
 

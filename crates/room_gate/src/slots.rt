@@ -1,8 +1,8 @@
 //! The slots of a use, which hold owned values.
 ghost use Rattle.std.specs.Prelude.{◌≡◌, Some};
 
-use crate::set_ups::Rooms;
-use crate::stays::Inside;
+use crate::inside::Inside;
+use crate::rooms::Rooms;
 use room_rule::RoomUse;
 
 impl<U: RoomUse> Rooms<U> {

@@ -1,10 +1,10 @@
 //! Steps on touch words, which a caller makes outside all rooms.
-ghost use Rattle.std.specs.Prelude.{◌≡◌, ℕ, ◌+◌, ◌-◌, ◌<◌, ◌≤◌, None};
+ghost use Rattle.std.specs.Prelude.{◌≡◌, ℕ, ◌+◌, ◌-◌, ◌<◌, ◌≤◌, true, None};
 ghost use Rattle.room_rule.specs.Use.{own};
-ghost use Rattle.room_gate.specs.Stepping.{MayTouch, any, fits_with};
+ghost use Rattle.room_gate.specs.Stepping.{MayTouch, HasTouched, any, fits_with};
 
 use crate::passes::Pass;
-use crate::set_ups::Rooms;
+use crate::rooms::Rooms;
 use room_rule::{Outcome, RoomUse};
 use std::marker::Brand;
 
@@ -15,6 +15,8 @@ impl<U: RoomUse> Rooms<U> {
         requires word { word < U.meaning.words self.now.usage }
         requires can { MayTouch U.meaning self.now.usage pass.old word (λ n. n) any (M.then what.now) }
         ensures told { M.then what.now (own pass.old.user None) result result (own pass.new.user None) }
+        ensures allowed { HasTouched U.meaning self.now.usage pass.old word result result pass.new }
+        ensures touch { U.meaning.is_touch self.now.usage word ≡ true }
         ensures same { pass.new ≡ record pass.old { user = pass.new.user } }
     {
         self.load_as::<Brand, M>(&mut pass.seat, word, what)
@@ -32,6 +34,8 @@ impl<U: RoomUse> Rooms<U> {
         requires word { word < U.meaning.words self.now.usage }
         requires can { MayTouch U.meaning self.now.usage pass.old word (λ n. n + by) (fits_with by) (M.then what.now) }
         ensures told { M.then what.now (own pass.old.user None) result (result + by) (own pass.new.user None) }
+        ensures allowed { HasTouched U.meaning self.now.usage pass.old word result (result + by) pass.new }
+        ensures touch { U.meaning.is_touch self.now.usage word ≡ true }
         ensures same { pass.new ≡ record pass.old { user = pass.new.user } }
     {
         self.add_as::<Brand, M>(&mut pass.seat, word, by, what)
@@ -49,6 +53,8 @@ impl<U: RoomUse> Rooms<U> {
         requires word { word < U.meaning.words self.now.usage }
         requires can { MayTouch U.meaning self.now.usage pass.old word (λ n. n - by) (λ n. by ≤ n) (M.then what.now) }
         ensures told { M.then what.now (own pass.old.user None) result (result - by) (own pass.new.user None) }
+        ensures allowed { HasTouched U.meaning self.now.usage pass.old word result (result - by) pass.new }
+        ensures touch { U.meaning.is_touch self.now.usage word ≡ true }
         ensures same { pass.new ≡ record pass.old { user = pass.new.user } }
     {
         self.sub_as::<Brand, M>(&mut pass.seat, word, by, what)

@@ -3,7 +3,7 @@ ghost use Rattle.std.specs.Prelude.{◌≡◌, ℕ, ◌+◌, ◌-◌, ◌%◌, �
 ghost use Rattle.room_rule.specs.Told.{Seated};
 ghost use Rattle.room_gate.specs.Stepping.{Permits};
 
-use crate::set_ups::Rooms;
+use crate::rooms::Rooms;
 use atomic_table::{Play, Seat};
 use room_rule::{Outcome, RoomUse, Shown, user_place};
 use std::marker::{Brand, PhantomData};

@@ -12,7 +12,7 @@ use Rattle.room_core.specs.declared.phases.Phase.TheVariants.{Out, Exiting}
 use Rattle.room_core.specs.Words.{HasWord, held, listed, place}
 use Rattle.room_core.specs.Runs.{World, Moment, carried, happens}
 use Rattle.room_core.specs.Moves.{Move, value_of}
-use Rattle.room_core.specs.Machine.{made, row_of, phase_of, counted}
+use Rattle.room_core.specs.Machine.{made, row_of, phase_of, draws_after}
 use Rattle.room_core.specs.Trace.{trace}
 use Rattle.room_core.specs.Trace.{since}
 use Rattle.room_core.specs.Gate.{gate}
@@ -20,7 +20,7 @@ use Rattle.room_core.proofs.Listed.{Sized, IsApt, touched_listed, held_listed, l
 use Rattle.room_core.proofs.Facts.{sizes, count, drawers, one_more}
 use Rattle.room_rule.specs.Use.{IsAt, Meaning, ShowsWords}
 use Rattle.room_rule.specs.Callers.{after_step}
-use Rattle.room_rule.specs.Openings.{openings_of, StartsWith}
+use Rattle.room_rule.specs.Openings.{world_openings, StartsWith}
 use Rattle.room_rule.specs.View.{moved, drawn_by}
 use Rattle.room_rule.specs.Rule.{Roll, IsCaller, Knows, is_waiting, MayStillEnter, ShowsKept, Ruled}
 use Rattle.room_rule.specs.declared.rule.Plan.{Plan}
@@ -38,13 +38,13 @@ abbrev pub moment_is : World → ℕ → Act → Move → Moment
 moment_is w c act mv = record { caller = c; act = act; event = (made w.state.words mv).1 }
 
 draws_else : (draws : List ℕ) (c d : ℕ) (act : Act) → d ≢ c
-    → get_or (counted draws c act) d 0 ≡ get_or draws d 0
+    → get_or (draws_after draws c act) d 0 ≡ get_or draws d 0
 draws_else draws c d (Draw r) ne = get_or-set_other draws c d (get_or draws c 0 + 1) 0 ne
 draws_else draws c d Step ne = refl
 draws_else draws c d Leave ne = refl
 
 draws_here : (draws : List ℕ) (c : ℕ) (act : Act) → c < length draws
-    → get_or (counted draws c act) c 0 ≡ drawn_by act (get_or draws c 0)
+    → get_or (draws_after draws c act) c 0 ≡ drawn_by act (get_or draws c 0)
 draws_here draws c (Draw r) h = get_or-set_same draws c (get_or draws c 0 + 1) 0 h
 draws_here draws c Step h = refl
 draws_here draws c Leave h = refl
@@ -62,7 +62,7 @@ others_know : {V : Type 0} (w : World) (views : List V) (roll : Roll) (who seat 
 others_know w views roll who seat id act mv mine apart Maker v h = h
 others_know w views roll who seat id act mv mine apart Gone v h = tt
 others_know w views roll who seat id act mv mine apart Note v h =
-    starts_trans (openings_of (then_is w who act mv)) (openings_of w) v.seen
+    starts_trans (world_openings (then_is w who act mv)) (world_openings w) v.seen
     (grown (moment_is w who act mv) w.history) h
 others_know w views roll who seat id act mv mine apart Keeper v h = λ i e at.
     let q = h i e at in
@@ -84,22 +84,22 @@ others_know w views roll who seat id act mv mine apart Pass v h =
           (mv.next (held w.state.words mv.word)) Out not_me ∙ h.phase;
       draws = draws_else w.state.draws who v.who act not_me ∙ h.draws;
       user = h.user;
-      seen = starts_trans (openings_of w') (openings_of w) v.seen more h.seen;
-      known = among_more (openings_of w) (openings_of w') v.known more h.known;
+      seen = starts_trans (world_openings w') (world_openings w) v.seen more h.seen;
+      known = among_more (world_openings w) (world_openings w') v.known more h.known;
     }
 
 -- of what the caller knows of, after an act of its own
 still_known : {V : Type 0} (w : World) (act : Act) (mv : Move) (v : Shown V) (n : ℕ)
     (seen : List Opening)
-    → StartsWith (openings_of w) v.seen
-    → (let l = openings_of (then_is w v.who act mv) in
+    → StartsWith (world_openings w) v.seen
+    → (let l = world_openings (then_is w v.who act mv) in
     ((i : ℕ) (o : Opening) → IsAt v.known i o → (j : ℕ) × IsAt l j o))
     → (i : ℕ) (o : Opening) → IsAt (moved v act mv n seen).known i o
-    → (j : ℕ) × IsAt (openings_of (then_is w v.who act mv)) j o
+    → (j : ℕ) × IsAt (world_openings (then_is w v.who act mv)) j o
 still_known w (Draw r) mv v n seen starts known =
     let w' = then_is w v.who (Draw r) mv in
-    among_first (openings_of w') v.seen
-    (starts_trans (openings_of w') (openings_of w) v.seen
+    among_first (world_openings w') v.seen
+    (starts_trans (world_openings w') (world_openings w) v.seen
     (grown (moment_is w v.who (Draw r) mv) w.history) starts)
 still_known w Step mv v n seen starts known = known
 still_known w Leave mv v n seen starts known = known
@@ -130,7 +130,7 @@ module _ {X S V : Type 0} (M : Meaning X S V) (m : ℕ) (k : Plan X) where
     pub by : row_of r.world.state v.who act ≡ Ok (made r.world.state.words mv)
     pub has : HasWord r.world.state.words mv.word
     pub apt : IsApt mv.kind mv.word
-    pub starts : StartsWith (openings_of (then_is r.world v.who act mv)) seen
+    pub starts : StartsWith (world_openings (then_is r.world v.who act mv)) seen
     pub lawful : M.lawful k.usage r.content (gate (trace (then_is r.world v.who act mv).history))
     pub waits : is_waiting (mv.next (held r.world.state.words mv.word)) ≡ true
         → MayStillEnter M k.usage (then_is r.world v.who act mv) v.who v.user
@@ -186,7 +186,7 @@ module _ {X S V : Type 0} (M : Meaning X S V) (m : ℕ) (k : Plan X) where
         user = h.user;
         seen = o.starts;
         known = still_known w act mv v n seen h.seen
-            (among_more (openings_of w) (openings_of w') v.known
+            (among_more (world_openings w) (world_openings w') v.known
             (grown (moment_is w v.who act mv) w.history) h.known);
       }
 

@@ -19,6 +19,7 @@ use Rattle.room_rule.specs.Use.{IsAt, Slots, Meaning}
 use Rattle.room_rule.specs.Callers.{at_below, after_step}
 use Rattle.room_rule.specs.Laws.{IsKept, Laws}
 use Rattle.room_rule.specs.View.{keeper, gone, taken_in}
+use Rattle.room_rule.specs.Quietly.{IsQuiet}
 use Rattle.room_rule.specs.Rule.{Roll, IsTakenIn, Knows, Ruled}
 use Rattle.room_rule.specs.Closes.{AreApart, Ends}
 use Rattle.room_rule.specs.declared.rule.Plan.{Plan}
@@ -83,11 +84,11 @@ still_so world views roll who id other j was apart Keeper x h = λ i e at.
 
 module _ {X S V : Type 0} (M : Meaning X S V) (m : ℕ) (k : Plan X) where
   -- a new seat is a keeper that has taken in no pass
-  pub keeper_enters : (slots word : ℕ)
-      → Enters (Ruled M m k) slots word (λ n w. w ≡ keeper M.starts)
-  keeper_enters slots word s r _ _ =
+  pub keeper_has_come : (s : Table M m k) (r : Rule M m k s)
+      → IsQuiet M m k s r (s.views ++ keeper M.starts ∷ [])
+  unfolding with_views
+  keeper_has_come s r =
       let new = keeper M.starts in (
-        new,
         with_views M m k s r (s.views ++ new ∷ [])
             (λ j d e. ⊎_elim (λ f. r.each j d f)
             (λ (t : new ≡ d). subst (λ (z : Shown V). So M m k s r j z) t
@@ -97,6 +98,10 @@ module _ {X S V : Type 0} (M : Meaning X S V) (m : ℕ) (k : Plan X) where
             (λ f. absurd (keeper_not f))) (at_snoc s.views new d j e)),
         refl,
       )
+
+  pub keeper_enters : (slots word : ℕ)
+      → Enters (Ruled M m k) slots word (λ n w. w ≡ keeper M.starts)
+  keeper_enters slots word s r _ _ = (keeper M.starts, (keeper_has_come s r).0, refl)
 
   -- all passes of the keeper, with one more
   all_in : (s : Table M m k) (r : Rule M m k s) (id : ℕ) (v w : Shown V)
@@ -126,12 +131,11 @@ module _ {X S V : Type 0} (M : Meaning X S V) (m : ℕ) (k : Plan X) where
       }
 
   -- the keeper takes in a pass
-  pub keeper_joins : (id : ℕ) (v : Shown V) (other : ℕ) (w : Shown V) → v.role ≡ Keeper
-      → w.role ≡ Pass → w.phase ≡ Out
-      → Joins (Ruled M m k) id v other w (taken_in v w) (gone M.starts)
-  keeper_joins id v other w is its_role out s r at apart there =
+  pub takes_in : (s : Table M m k) (r : Rule M m k s) (id other : ℕ) (v w : Shown V)
+      → IsAt s.views id v → IsAt s.views other w → v.role ≡ Keeper → w.role ≡ Pass → w.phase ≡ Out
+      → IsQuiet M m k s r (set (set s.views id (taken_in v w)) other (gone M.starts))
+  takes_in s r id other v w at was is its_role out =
       let now = taken_in v w in let end = gone M.starts in
-      let was : IsAt s.views other w = sym (set_else s.views id other now apart) ∙ there in
       let roll' = with_keeper r.roll w.who id in
       let So' : ℕ → Shown V → Type 0 = λ j d. Knows r.world r.content.views roll' j d.role d in
       let mine_ = subst (λ (z : Role). Knows r.world r.content.views r.roll id z v) is
@@ -139,38 +143,48 @@ module _ {X S V : Type 0} (M : Meaning X S V) (m : ℕ) (k : Plan X) where
       let its = mine M m k s r other w was its_role in
       let so : So' id now =
       subst (λ (z : Role). Knows r.world r.content.views roll' id z now) (sym is)
-      (all_in s r id v w mine_ its.made (its.phase ∙ out) its.user) in
-      record {
-        world = r.world;
-        reached = r.reached;
-        content = r.content;
-        words = r.words;
-        sized = r.sized;
-        slots = r.slots;
-        slotted = r.slotted;
-        crowd = r.crowd;
-        few_callers = r.few_callers;
-        few_rooms = r.few_rooms;
-        roll = roll';
-        few_made = r.few_made;
-        each = λ j d e. ⊎_elim
-            (λ (t : (j ≡ other) × (end ≡ d)). subst (λ (z : Shown V). So' j z) t.1 tt)
-            (λ (t : (j ≢ other) × IsAt (set s.views id now) j d). ⊎_elim
-            (λ (q : (j ≡ id) × (now ≡ d)).
-            subst (λ (z : ℕ × Shown V). So' z.0 z.1) (λ i. (sym q.0 i, q.1 i)) so)
-            (λ (q : (j ≢ id) × IsAt s.views j d).
-            still_so r.world r.content.views r.roll w.who id other j its.seat t.0 d.role d
-            (r.each j d q.1))
-            (at_set s.views id j now d t.1))
-            (at_set (set s.views id now) other j end d e);
-        unmade = r.unmade;
-        kept = after_step (Kept M m k s r) (set s.views id now) other end (λ e. absurd (gone_not e))
-            (λ j d _ e. after_step (Kept M m k s r) s.views id now
-            (λ f. absurd (keeper_not (sym is ∙ f))) (λ i x _ f. r.kept i x f) j d e);
-        lawful = r.lawful;
-        past = r.past;
-        waits = r.waits;
-      }
+      (all_in s r id v w mine_ its.made (its.phase ∙ out) its.user) in (
+        record {
+          world = r.world;
+          reached = r.reached;
+          content = r.content;
+          words = r.words;
+          sized = r.sized;
+          slots = r.slots;
+          slotted = r.slotted;
+          crowd = r.crowd;
+          few_callers = r.few_callers;
+          few_rooms = r.few_rooms;
+          roll = roll';
+          few_made = r.few_made;
+          each = λ j d e. ⊎_elim
+              (λ (t : (j ≡ other) × (end ≡ d)). subst (λ (z : Shown V). So' j z) t.1 tt)
+              (λ (t : (j ≢ other) × IsAt (set s.views id now) j d). ⊎_elim
+              (λ (q : (j ≡ id) × (now ≡ d)).
+              subst (λ (z : ℕ × Shown V). So' z.0 z.1) (λ i. (sym q.0 i, q.1 i)) so)
+              (λ (q : (j ≢ id) × IsAt s.views j d).
+              still_so r.world r.content.views r.roll w.who id other j its.seat t.0 d.role d
+              (r.each j d q.1))
+              (at_set s.views id j now d t.1))
+              (at_set (set s.views id now) other j end d e);
+          unmade = r.unmade;
+          kept = after_step (Kept M m k s r) (set s.views id now) other end (λ e. absurd (gone_not e))
+              (λ j d _ e. after_step (Kept M m k s r) s.views id now
+              (λ f. absurd (keeper_not (sym is ∙ f))) (λ i x _ f. r.kept i x f) j d e);
+          lawful = r.lawful;
+          past = r.past;
+          waits = r.waits;
+        },
+        refl,
+      )
+
+  pub keeper_joins : (id : ℕ) (v : Shown V) (other : ℕ) (w : Shown V) → v.role ≡ Keeper
+      → w.role ≡ Pass → w.phase ≡ Out
+      → Joins (Ruled M m k) id v other w (taken_in v w) (gone M.starts)
+  keeper_joins id v other w is its_role out s r at apart there =
+      let was : IsAt s.views other w =
+      sym (set_else s.views id other (taken_in v w) apart) ∙ there in
+      (takes_in s r id other v w at was is its_role out).0
 
   -- no slot is out where the gate is shut
   none_out : Laws M → (s : Table M m k) (r : Rule M m k s) (turn : ℕ)

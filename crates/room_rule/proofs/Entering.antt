@@ -21,7 +21,7 @@ use Rattle.room_core.proofs.Invariant.{room_inside}
 use Rattle.room_core.proofs.Facts.{IsHeld, sound, count, active_low, wait_low, draw_row, step_row, one_more, granted_to, turner, opener, bypass, gate_held, gate_entered, gate_opened_in}
 use Rattle.room_rule.specs.Use.{IsAt, Meaning, IsInsider}
 use Rattle.room_rule.specs.Laws.{Laws}
-use Rattle.room_rule.specs.Openings.{openings_of, IsAmong, IsCovered}
+use Rattle.room_rule.specs.Openings.{world_openings, IsAmong, IsCovered}
 use Rattle.room_rule.specs.View.{moved}
 use Rattle.room_rule.specs.Rule.{is_waiting}
 use Rattle.room_rule.specs.Told.{Seated, stepped_by, IsEvent}
@@ -93,7 +93,7 @@ module _ {X S V : Type 0} (M : Meaning X S V) (m : ℕ) (k : Plan X) where
 
   -- an opening that is known was granted
   granted : (s : Table M m k) (r : Rule M m k s) (room ticket : ℕ) (known : List Opening)
-      → IsAmong (openings_of r.world) known → IsCovered known room ticket
+      → IsAmong (world_openings r.world) known → IsCovered known room ticket
       → ticket ≤ get_or r.world.state.words.grant room 0
   granted s r room ticket known among c =
       let o : Opening = c.1.0 in let j = among c.0 o c.1.1 in

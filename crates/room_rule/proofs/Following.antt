@@ -11,7 +11,7 @@ use Rattle.room_rule.specs.Use.{Meaning}
 use Rattle.room_rule.specs.Laws.{Laws}
 use Rattle.room_rule.specs.View.{moved}
 use Rattle.room_rule.specs.Told.{Seated, stepped_by, IsEvent}
-use Rattle.room_rule.specs.Following.{told, MayGo, StepsAreActs, DrawsAreActs, LeavesAreActs}
+use Rattle.room_rule.specs.Following.{number_told, MayGo, StepsAreActs, DrawsAreActs, LeavesAreActs}
 use Rattle.room_rule.specs.Following.{anything, InsidersKeepIt, HoldersKeepIt, TouchesKeepIt}
 use Rattle.room_rule.specs.declared.rule.Plan.{Plan}
 use Rattle.room_rule.specs.declared.views.Role.TheVariants.{Pass}
@@ -33,7 +33,7 @@ module _ {X S V : Type 0} (M : Meaning X S V) (m : ℕ) (laws : Laws M) where
   abbrev IsAct : Plan X → ℕ → ℕ → Seated S V → Move → Type 0
   IsAct k slots id me mv =
       IsEvent M m k slots id me (place m mv.word) (value_of mv.kind)
-      (λ n me'. stepped_by M m me (told mv.kind n) me') Step
+      (λ n me'. stepped_by M m me (number_told mv.kind n) me') Step
 
   -- the step of the row of a phase
   row : (k : Plan X) (slots id : ℕ) (me : Seated S V) (p : Phase) (mv : Move) → me.0.role ≡ Pass
@@ -82,37 +82,38 @@ module _ {X S V : Type 0} (M : Meaning X S V) (m : ℕ) (laws : Laws M) where
       (pack (turn + 1) (j + 1)) is at refl)
 
   pub steps_are_acts : StepsAreActs M m
-  steps_are_acts k slots id me mv is by may = row k slots id me me.0.phase mv is refl by may
+  steps_are_acts k slots id me mv p = row k slots id me me.0.phase mv p.pass refl p.row p.may
 
   pub draws_are_acts : DrawsAreActs M m
-  draws_are_acts k slots id me room is out below more may =
+  draws_are_acts k slots id me room p =
       let tells : ℕ → Seated S V
       → Type 0 = λ n me'.
       me' ≡ (moved me.0 (Draw room) (drawing_move room) n me.0.seen, me.1) in
       draws M m k slots id me room
-      (λ n. (n + 1) % 18446744073709551616) tells is below out more may (λ n h. mod-eq_of_lt h)
-      (λ n h. refl)
+      (λ n. (n + 1) % 18446744073709551616) tells p.pass p.exists p.out p.left p.may
+      (λ n h. mod-eq_of_lt h) (λ n h. refl)
 
   pub leaves_are_acts : LeavesAreActs M m
-  leaves_are_acts k slots id me room ticket turn to first is at may =
-      leaves M m k laws slots id me room ticket turn to first
-      (λ n. (n + 1) % 18446744073709551616) is at may (λ n h. mod-eq_of_lt h)
+  leaves_are_acts k slots id me room p =
+      leaves M m k laws slots id me room p.ticket p.turn p.to p.first
+      (λ n. (n + 1) % 18446744073709551616) p.pass p.inside p.may (λ n h. mod-eq_of_lt h)
 
   pub insiders_keep_it : InsidersKeepIt M m
-  insiders_keep_it k slots id me room ticket turn to word first change is at there has can =
-      steps M m k laws slots id me room ticket turn to word first change change (λ n. Unit {0})
-      (anything M m) (λ n me'. Unit {0}) is at there has can (λ n small f. refl)
-      (λ n u carried c t. tt)
+  insiders_keep_it k slots id me word change p =
+      steps M m k laws slots id me p.room p.ticket p.turn p.to word p.first change change
+      (λ n. Unit {0}) (anything M m) (λ n me'. Unit {0}) p.pass p.inside p.exists p.carries p.can
+      (λ n small f. refl) (λ n u carried c t. tt)
 
   pub holders_keep_it : HoldersKeepIt M m
-  holders_keep_it k slots id me room turn word change is at there can =
-      exits M m k laws slots id me room turn word change change (λ n. set me.0.kept word (change n))
-      (anything M m) (λ n me'. Unit {0}) is at there can (λ n small. refl)
+  holders_keep_it k slots id me word change p =
+      exits M m k laws slots id me p.room p.turn word change change
+      (λ n. set me.0.kept word (change n))
+      (anything M m) (λ n me'. Unit {0}) p.pass p.exiting p.exists p.can (λ n small. refl)
       (λ words size shows.
       shows_set M k.usage words me.0.kept word (change (get_or words word 0)) size shows)
       (λ n u shown size t. tt)
 
   pub touches_keep_it : TouchesKeepIt M m
-  touches_keep_it k slots id me word change is at there can =
+  touches_keep_it k slots id me word change p =
       touches M m k laws slots id me word change change (λ n. Unit {0}) (anything M m)
-      (λ n me'. Unit {0}) is at there can (λ n small f. refl) (λ n u t. tt)
+      (λ n me'. Unit {0}) p.pass p.out p.exists p.can (λ n small f. refl) (λ n u t. tt)

@@ -12,3 +12,7 @@ pub mod UserSteps
 pub mod Looking
 pub mod Closing
 pub mod Following
+pub mod States
+pub mod Writers
+pub mod Quietly
+pub mod Made

@@ -14,7 +14,7 @@ use Rattle.room_core.proofs.Facts.{sound, insider, held_turn}
 use Rattle.room_core.proofs.Admitting.{length_opened}
 use Rattle.room_rule.specs.Use.{Meaning}
 use Rattle.room_rule.specs.Callers.{after_step}
-use Rattle.room_rule.specs.Openings.{openings_of}
+use Rattle.room_rule.specs.Openings.{world_openings}
 use Rattle.room_rule.specs.Looking.{looked_again, Finds, looked_by}
 use Rattle.room_rule.specs.Rule.{Knows}
 use Rattle.room_rule.specs.Told.{Seated, IsNoEvent}
@@ -76,7 +76,7 @@ module _ {X S V : Type 0} (M : Meaning X S V) (m : ℕ) (k : Plan X) where
       record {
         turn_is = ap turn_of found ∙ word.0;
         code_is = ap code_of found ∙ word.1;
-        openings = openings_of w;
+        openings = world_openings w;
         long = length_opened t
             ∙ sym (held_turn m k.callers r.few_rooms r.few_callers w r.reached room turn to
             in_it.0.now);

@@ -12,7 +12,9 @@ use Rattle.room_rule.specs.Use.{IsAt, Slots, Meaning}
 use Rattle.room_rule.specs.Callers.{after_step}
 use Rattle.room_rule.specs.Laws.{Laws}
 use Rattle.room_rule.specs.View.{maker, hired, after_hire}
-use Rattle.room_rule.specs.Openings.{openings_of}
+use Rattle.room_rule.specs.Quietly.{IsQuiet}
+use Rattle.room_rule.proofs.Acts.{Table, Rule}
+use Rattle.room_rule.specs.Openings.{world_openings}
 use Rattle.room_rule.specs.Rule.{Roll, Knows, is_waiting, ShowsKept, Ruled}
 use Rattle.room_rule.specs.declared.rule.Plan.{Plan}
 use Rattle.room_rule.specs.declared.views.Role.{Role}
@@ -114,12 +116,12 @@ still_so world views roll next j id own apart Pass x h =
 
 module _ {X S V : Type 0} (M : Meaning X S V) (m : ℕ) (k : Plan X) where
   -- a new table
-  pub opens : Laws M → m ≤ 7 → (user : List ℕ) → k.callers ≤ 64 → length user ≡ M.words k.usage
+  pub begins : Laws M → m ≤ 7 → (user : List ℕ) → k.callers ≤ 64 → length user ≡ M.words k.usage
       → ((i : ℕ) → i < M.words k.usage → get_or user i 0 ≡ M.start k.usage k.callers i)
-      → Ruled M m k
+      → (r : Ruled M m k
       (opening (replicate (1 + 3 * m) 0 ++ user) (replicate (M.slots k.usage) None)
-      (maker M.starts))
-  opens laws few_rooms user few sized words =
+      (maker M.starts))) × (r.world ≡ start m k.callers)
+  begins laws few_rooms user few sized words =
       let views = starting M.starts 0 k.callers in let w = start m k.callers in
       let n : ℕ = M.slots k.usage in
       let slots : Slots S = map some (replicate n None) in
@@ -127,40 +129,50 @@ module _ {X S V : Type 0} (M : Meaning X S V) (m : ℕ) (k : Plan X) where
       ∙ length-replicate n None in
       let first : (c : ℕ) → c < k.callers → IsAt views c (M.starts c) = λ c under.
       starting_at M.starts 0 k.callers c under
-      ∙ ap (λ (z : ℕ). some (M.starts z)) (let q : 0 + c ≡ c = omega arith in q) in
-      record {
-        world = w;
-        reached = ([], refl);
-        content = record { words = user; slots = slots; views = views };
-        words = ap (λ (l : List ℕ). l ++ user) (listed_start m k.callers);
-        sized = sized;
-        slots = refl;
-        slotted = slotted;
-        crowd = length-starting M.starts 0 k.callers;
-        few_callers = few;
-        few_rooms = few_rooms;
-        roll = record { seat_of = λ c. c; maker = 0; made = 0 };
-        few_made = omega arith;
-        each = λ j v e. let o = only_one (maker M.starts) v j e in
-            subst (λ (z : Shown V).
-            Knows w views (record { seat_of = λ c. c; maker = 0; made = 0 }) j z.role z) o.1
-            (o.0, refl);
-        unmade = λ c _ under.
-            record { out = outs k.callers c; draws = zeros k.callers c; user = first c under };
-        kept = λ j v e. subst (λ (z : Shown V). ShowsKept M k.usage user z)
-            (only_one (maker M.starts) v j e).1 (λ f. absurd (maker_not f));
-        lawful = laws.starts k.usage k.callers
-            (record { words = user; slots = slots; views = views }) few sized words
-            (length-starting M.starts 0 k.callers) slotted (λ j under. all_none n j None under) first;
-        past = λ c v e. let q =
-            starting_low M.starts M.last 0 k.callers c v laws.last_turns.starts e in omega arith;
-        waits = λ c v e f. absurd (not_waiting (ap is_waiting (sym (outs k.callers c)) ∙ f));
-      }
+      ∙ ap (λ (z : ℕ). some (M.starts z)) (let q : 0 + c ≡ c = omega arith in q) in (
+        record {
+          world = w;
+          reached = ([], refl);
+          content = record { words = user; slots = slots; views = views };
+          words = ap (λ (l : List ℕ). l ++ user) (listed_start m k.callers);
+          sized = sized;
+          slots = refl;
+          slotted = slotted;
+          crowd = length-starting M.starts 0 k.callers;
+          few_callers = few;
+          few_rooms = few_rooms;
+          roll = record { seat_of = λ c. c; maker = 0; made = 0 };
+          few_made = omega arith;
+          each = λ j v e. let o = only_one (maker M.starts) v j e in
+              subst (λ (z : Shown V).
+              Knows w views (record { seat_of = λ c. c; maker = 0; made = 0 }) j z.role z) o.1
+              (o.0, refl);
+          unmade = λ c _ under.
+              record { out = outs k.callers c; draws = zeros k.callers c; user = first c under };
+          kept = λ j v e. subst (λ (z : Shown V). ShowsKept M k.usage user z)
+              (only_one (maker M.starts) v j e).1 (λ f. absurd (maker_not f));
+          lawful = laws.starts k.usage k.callers
+              (record { words = user; slots = slots; views = views }) few sized words
+              (length-starting M.starts 0 k.callers) slotted (λ j under. all_none n j None under) first;
+          past = λ c v e. let q =
+              starting_low M.starts M.last 0 k.callers c v laws.last_turns.starts e in omega arith;
+          waits = λ c v e f. absurd (not_waiting (ap is_waiting (sym (outs k.callers c)) ∙ f));
+        },
+        refl,
+      )
+
+  pub opens : Laws M → m ≤ 7 → (user : List ℕ) → k.callers ≤ 64 → length user ≡ M.words k.usage
+      → ((i : ℕ) → i < M.words k.usage → get_or user i 0 ≡ M.start k.usage k.callers i)
+      → Ruled M m k
+      (opening (replicate (1 + 3 * m) 0 ++ user) (replicate (M.slots k.usage) None)
+      (maker M.starts))
+  opens laws few_rooms user few sized words = (begins laws few_rooms user few sized words).0
 
   -- the maker makes the next pass
-  pub hires : (id : ℕ) (v : Shown V) → v.role ≡ Maker → v.who < k.callers
-      → Splits (Ruled M m k) id v (after_hire v) (hired M.starts v)
-  hires id v is left s r at =
+  pub hires_quietly : (s : Table M m k) (r : Rule M m k s) (id : ℕ) (v : Shown V)
+      → IsAt s.views id v → v.role ≡ Maker → v.who < k.callers
+      → IsQuiet M m k s r (set s.views id (after_hire v) ++ hired M.starts v ∷ [])
+  hires_quietly s r id v at is left =
       let h = subst (λ (z : Role). Knows r.world r.content.views r.roll id z v) is
       (r.each id v at) in
       let own : id ≡ r.roll.maker = h.0 in let num : v.who ≡ r.roll.made = h.1 in
@@ -177,41 +189,47 @@ module _ {X S V : Type 0} (M : Meaning X S V) (m : ℕ) (k : Plan X) where
         draws = ap (λ (z : ℕ). get_or w.state.draws z 0) num ∙ u.draws;
         user = ap (get_elem? r.content.views) num
             ∙ (u.user ∙ ap (λ (z : ℕ). some (M.starts z)) (sym num));
-        seen = (openings_of w, refl);
+        seen = (world_openings w, refl);
         known = λ i a e. absurd (none_there i a e);
-      } in
-      record {
-        world = w;
-        reached = r.reached;
-        content = r.content;
-        words = r.words;
-        sized = r.sized;
-        slots = r.slots;
-        slotted = r.slotted;
-        crowd = r.crowd;
-        few_callers = r.few_callers;
-        few_rooms = r.few_rooms;
-        roll = roll';
-        few_made = omega arith;
-        each = λ j x e. ⊎_elim
-            (after_step So' s.views id (after_hire v)
-            (subst (λ (z : Role). Knows w r.content.views roll' id z (after_hire v)) (sym is)
-            (own, ap (λ (z : ℕ). z + 1) num))
-            (λ i y apart f. still_so w r.content.views r.roll next i id own apart y.role y
-            (r.each i y f)) j x)
-            (λ (t : (j ≡ length (set s.views id (after_hire v))) × (new ≡ x)).
-            let here : j ≡ next = t.0 ∙ length-set s.views id (after_hire v) in
-            subst (λ (z : ℕ × Shown V). So' z.0 z.1) (λ i. (sym here i, t.1 i)) its)
-            (at_end (set s.views id (after_hire v)) new x j e);
-        unmade = λ c late under. r.unmade c (omega arith) under;
-        kept = λ j x e. ⊎_elim
-            (after_step (λ i y. ShowsKept M k.usage r.content.words y) s.views id (after_hire v)
-            (λ f. absurd (maker_not (sym is ∙ f))) (λ i y _ f. r.kept i y f) j x)
-            (λ (t : (j ≡ length (set s.views id (after_hire v))) × (new ≡ x)).
-            subst (λ (z : Shown V). ShowsKept M k.usage r.content.words z) t.1
-            (λ _ a b f. absurd (out_not a b f)))
-            (at_end (set s.views id (after_hire v)) new x j e);
-        lawful = r.lawful;
-        past = r.past;
-        waits = r.waits;
-      }
+      } in (
+        record {
+          world = w;
+          reached = r.reached;
+          content = r.content;
+          words = r.words;
+          sized = r.sized;
+          slots = r.slots;
+          slotted = r.slotted;
+          crowd = r.crowd;
+          few_callers = r.few_callers;
+          few_rooms = r.few_rooms;
+          roll = roll';
+          few_made = omega arith;
+          each = λ j x e. ⊎_elim
+              (after_step So' s.views id (after_hire v)
+              (subst (λ (z : Role). Knows w r.content.views roll' id z (after_hire v)) (sym is)
+              (own, ap (λ (z : ℕ). z + 1) num))
+              (λ i y apart f. still_so w r.content.views r.roll next i id own apart y.role y
+              (r.each i y f)) j x)
+              (λ (t : (j ≡ length (set s.views id (after_hire v))) × (new ≡ x)).
+              let here : j ≡ next = t.0 ∙ length-set s.views id (after_hire v) in
+              subst (λ (z : ℕ × Shown V). So' z.0 z.1) (λ i. (sym here i, t.1 i)) its)
+              (at_end (set s.views id (after_hire v)) new x j e);
+          unmade = λ c late under. r.unmade c (omega arith) under;
+          kept = λ j x e. ⊎_elim
+              (after_step (λ i y. ShowsKept M k.usage r.content.words y) s.views id (after_hire v)
+              (λ f. absurd (maker_not (sym is ∙ f))) (λ i y _ f. r.kept i y f) j x)
+              (λ (t : (j ≡ length (set s.views id (after_hire v))) × (new ≡ x)).
+              subst (λ (z : Shown V). ShowsKept M k.usage r.content.words z) t.1
+              (λ _ a b f. absurd (out_not a b f)))
+              (at_end (set s.views id (after_hire v)) new x j e);
+          lawful = r.lawful;
+          past = r.past;
+          waits = r.waits;
+        },
+        refl,
+      )
+
+  pub hires : (id : ℕ) (v : Shown V) → v.role ≡ Maker → v.who < k.callers
+      → Splits (Ruled M m k) id v (after_hire v) (hired M.starts v)
+  hires id v is left s r at = (hires_quietly s r id v at is left).0

@@ -140,7 +140,7 @@ others_know w views roll who seat id u mine apart Pass v h =
 
 module _ {X S V : Type 0} (M : Meaning X S V) (m : ℕ) (k : Plan X) where
   -- a user word in the table
-  user_word : (s : Table M m k) (r : Rule M m k s) (word : ℕ)
+  pub user_word : (s : Table M m k) (r : Rule M m k s) (word : ℕ)
       → get_or s.words (user_place m word) 0 ≡ get_or r.content.words word 0
   user_word s r word =
       let w = r.world.state.words in
@@ -246,7 +246,7 @@ module _ {X S V : Type 0} (M : Meaning X S V) (m : ℕ) (k : Plan X) where
       )
 
   -- who shows that it has the key has it
-  keyed_by : (s : Table M m k) (r : Rule M m k s) (j : ℕ) (d : Shown V) (room turn : ℕ)
+  pub keyed_by : (s : Table M m k) (r : Rule M m k s) (j : ℕ) (d : Shown V) (room turn : ℕ)
       → IsAt s.views j d → d.role ≡ Pass → d.phase ≡ Exiting room turn
       → gate (trace r.world.history) ≡ Keyed room turn d.who
   keyed_by s r j d room turn at is e = let h = mine M m k s r j d at is in
@@ -262,6 +262,61 @@ module _ {X S V : Type 0} (M : Meaning X S V) (m : ℕ) (k : Plan X) where
       let who : d.who ≡ v.who = ap holder (sym g' ∙ g) in
       sym (mine M m k s r j d there its).seat
       ∙ (ap r.roll.seat_of who ∙ (mine M m k s r id v at is).seat)
+
+  -- who shows that it is inside stands inside the held room
+  pub stands_inside : (s : Table M m k) (r : Rule M m k s) (id : ℕ) (v : Shown V)
+      (room ticket turn to : ℕ) (first : Option ℕ) → IsAt s.views id v → v.role ≡ Pass
+      → v.phase ≡ Inside room ticket first turn to
+      → StandsInside M k.usage room turn (inside (trace r.world.history)) v.who v.user r.content
+      × (gate (trace r.world.history) ≡ Held room turn (inside (trace r.world.history)))
+  stands_inside s r id v room ticket turn to first here is at =
+      let h = mine M m k s r id v here is in
+      let t = trace r.world.history in
+      let g = insider m k.callers r.few_rooms r.few_callers r.world r.reached v.who room ticket turn to
+      first (h.phase ∙ at) in
+      let gate_is = gate_held t room turn to g.0.now in (
+        record {
+          lawful = subst (M.lawful k.usage r.content) gate_is r.lawful;
+          sized = r.sized;
+          slotted = r.slotted;
+          view = h.user;
+          inside = g.1;
+        },
+        gate_is,
+      )
+
+  -- who shows that it has the key has it, and shows the words
+  pub has_key : (s : Table M m k) (r : Rule M m k s) (id : ℕ) (v : Shown V) (room turn : ℕ)
+      → IsAt s.views id v → v.role ≡ Pass → v.phase ≡ Exiting room turn
+      → HasKey M k.usage room turn v.who v.user r.content
+      × ShowsWords M k.usage v.kept r.content.words
+  has_key s r id v room turn here is at = (
+    record {
+      lawful = subst (M.lawful k.usage r.content) (keyed_by s r id v room turn here is at) r.lawful;
+      sized = r.sized;
+      slotted = r.slotted;
+      view = (mine M m k s r id v here is).user;
+    },
+    r.kept id v here is room turn at,
+  )
+
+  -- who shows that it is out stands outside all rooms
+  pub stands_outside : (s : Table M m k) (r : Rule M m k s) (id : ℕ) (v : Shown V)
+      → IsAt s.views id v → v.role ≡ Pass → v.phase ≡ Out
+      → StandsOutside M k.usage (gate (trace r.world.history)) v.who v.user r.content
+  stands_outside s r id v here is at =
+      let h = mine M m k s r id v here is in
+      let t = trace r.world.history in
+      let phase : phase_of r.world.state v.who ≡ Out = h.phase ∙ at in
+      record {
+        lawful = r.lawful;
+        sized = r.sized;
+        slotted = r.slotted;
+        view = h.user;
+        outside = outside_of (last_opening t) (is_closing t) (is_exiting t) (inside t) (leaver t) v.who
+            (outsider m k.callers r.few_rooms r.few_callers r.world r.reached v.who phase)
+            (key_elsewhere m k.callers r.few_rooms r.few_callers r.world r.reached v.who phase);
+      }
 
   -- a slot that a step takes is at home, since nobody else keeps it after the step either
   taken_home : Laws M → (s : Content S V) (who : ℕ) (v u : V) (word value j : ℕ)
@@ -304,19 +359,11 @@ module _ {X S V : Type 0} (M : Meaning X S V) (m : ℕ) (k : Plan X) where
       let phase : phase_of w.state v.who ≡ Inside room ticket first turn to = h.phase ∙ at in
       let g = insider m k.callers r.few_rooms r.few_callers w r.reached v.who room ticket turn to
       first phase in let now = g.0.now in
-      let gate_is = gate_held t room turn to now in
+      let so = stands_inside s r id v room ticket turn to first here is at in
+      let stands = so.0 in let gate_is = so.1 in
       let n : ℕ = get_or r.content.words word 0 in
       let e : get_or s.words (user_place m word) 0 ≡ n = user_word s r word in
       let fine : n < 2 ^ 64 = subst (λ (z : ℕ). z < 2 ^ 64) e small_word in
-      let stands : StandsInside M k.usage room turn (inside t) v.who v.user r.content =
-      record {
-        lawful = subst (L r.content) gate_is r.lawful;
-        sized = r.sized;
-        slotted = r.slotted;
-        view =
-            h.user;
-        inside = g.1;
-      } in
       let a = asks r.content (inside t) stands fine in let u : V = a.1.0 in
       let held = held_in me.1 in let contents = contents_of held in
       let next = laws.steps k.usage r.content room turn (inside t) v.who v.user word
@@ -382,18 +429,11 @@ module _ {X S V : Type 0} (M : Meaning X S V) (m : ℕ) (k : Plan X) where
       let L = M.lawful k.usage in
       let phase : phase_of w.state v.who ≡ Exiting room turn = h.phase ∙ at in
       let gate_is : gate t ≡ Keyed room turn v.who = keyed_by s r id v room turn here is at in
-      let known : ShowsWords M k.usage v.kept r.content.words = r.kept id v here is room turn at in
+      let so = has_key s r id v room turn here is at in let has = so.0 in
+      let known : ShowsWords M k.usage v.kept r.content.words = so.1 in
       let n : ℕ = get_or r.content.words word 0 in
       let e : get_or s.words (user_place m word) 0 ≡ n = user_word s r word in
       let fine : n < 2 ^ 64 = subst (λ (z : ℕ). z < 2 ^ 64) e small_word in
-      let has : HasKey M k.usage room turn v.who v.user r.content =
-      record {
-        lawful = subst (L r.content) gate_is r.lawful;
-        sized = r.sized;
-        slotted = r.slotted;
-        view =
-            h.user;
-      } in
       let a = asks r.content has known fine in let u : V = a.0 in
       let next = laws.exits k.usage r.content room turn v.who v.user word
       (plain n) u has there a.1 in
@@ -442,18 +482,7 @@ module _ {X S V : Type 0} (M : Meaning X S V) (m : ℕ) (k : Plan X) where
       let n : ℕ = get_or r.content.words word 0 in
       let e : get_or s.words (user_place m word) 0 ≡ n = user_word s r word in
       let fine : n < 2 ^ 64 = subst (λ (z : ℕ). z < 2 ^ 64) e small_word in
-      let out : Outside (gate t) v.who =
-      outside_of (last_opening t) (is_closing t) (is_exiting t) (inside t) (leaver t) v.who
-      (outsider m k.callers r.few_rooms r.few_callers w r.reached v.who phase)
-      (key_elsewhere m k.callers r.few_rooms r.few_callers w r.reached v.who phase) in
-      let stands : StandsOutside M k.usage (gate t) v.who v.user r.content =
-      record {
-        lawful = r.lawful;
-        sized = r.sized;
-        slotted = r.slotted;
-        view = h.user;
-        outside = out;
-      } in
+      let stands = stands_outside s r id v here is at in
       let a = asks r.content (gate t) stands fine in let u : V = a.1.0 in
       let next = laws.touches k.usage r.content (gate t) v.who v.user word
       (plain n) u stands there a.1.1 in

@@ -16,9 +16,9 @@ use Rattle.room_rule.specs.declared.views.Role.TheVariants.{Pass}
 use Rattle.room_rule.specs.declared.views.Shown.{Shown}
 
 -- the number that a step tells: the one stored, or else the one found
-abbrev pub told : Kind → ℕ → ℕ
-told (Stores value) n = value
-told _ n = n
+abbrev pub number_told : Kind → ℕ → ℕ
+number_told (Stores value) n = value
+number_told _ n = n
 
 module _ {X S V : Type 0} (M : Meaning X S V) (rooms : ℕ) where
   -- the room exists, and who ends its exit code shows words that rest
@@ -29,66 +29,99 @@ module _ {X S V : Type 0} (M : Meaning X S V) (rooms : ℕ) where
   MayGo x v (Exiting room turn) = (0 < rooms) × RestsOn M x v.kept v.user
   MayGo x v _ = Unit {0}
 
-  -- the step of the row of a caller's phase, on the word of that row
-  abbrev pub StepsAreActs : Type 0
-  StepsAreActs = (k : Plan X) (slots id : ℕ) (me : Seated S V) (mv : Move)
-      → me.0.role ≡ Pass
-      → move rooms me.0.who me.0.phase ≡ Some mv
-      → MayGo k.usage me.0 me.0.phase
-      → IsEvent M rooms k slots id me (place rooms mv.word) (value_of mv.kind)
-      (λ n me'. stepped_by M rooms me (told mv.kind n) me') Step
+  -- a caller's step of the row of its phase
+  pub record RowStep (k : Plan X) (me : Seated S V) (mv : Move) : Type 0 where
+    pub pass : me.0.role ≡ Pass
+    pub row : move rooms me.0.who me.0.phase ≡ Some mv
+    pub may : MayGo k.usage me.0 me.0.phase
 
-  -- the add by which a caller that is out draws
-  abbrev pub DrawsAreActs : Type 0
-  DrawsAreActs = (k : Plan X) (slots id : ℕ) (me : Seated S V) (room : ℕ)
-      → me.0.role ≡ Pass
-      → me.0.phase ≡ Out
-      → room < rooms
-      → me.0.draws < 2 ^ 48
-      → M.may_enter k.usage me.0.user
-      → IsEvent M rooms k slots id me (place rooms (Wait room)) (λ n. (n + 1) % 2 ^ 64)
-      (λ n me'. me' ≡ (moved me.0 (Draw room) (drawing_move room) n me.0.seen, me.1)) (Draw room)
+  -- a caller that is out, has a draw left and may enter
+  pub record Drawer (k : Plan X) (me : Seated S V) (room : ℕ) : Type 0 where
+    pub pass : me.0.role ≡ Pass
+    pub out : me.0.phase ≡ Out
+    pub exists : room < rooms
+    pub left : me.0.draws < 2 ^ 48
+    pub may : M.may_enter k.usage me.0.user
 
-  -- the add by which an insider leaves
-  abbrev pub LeavesAreActs : Type 0
-  LeavesAreActs = (k : Plan X) (slots id : ℕ) (me : Seated S V) (room ticket turn to : ℕ)
-      (first : Option ℕ)
-      → me.0.role ≡ Pass
-      → me.0.phase ≡ Inside room ticket first turn to
-      → M.may_leave k.usage me.0.user
-      → IsEvent M rooms k slots id me (place rooms (Done room)) (λ n. (n + 1) % 2 ^ 64)
-      (λ n me'. left_by me n me') Leave
+  -- an insider that may leave
+  pub record Leaver (k : Plan X) (me : Seated S V) (room : ℕ) : Type 0 where
+    pub pass : me.0.role ≡ Pass
+    pub ticket : ℕ
+    pub turn : ℕ
+    pub to : ℕ
+    pub first : Option ℕ
+    pub inside : me.0.phase ≡ Inside room ticket first turn to
+    pub may : M.may_leave k.usage me.0.user
 
   -- asks nothing
   abbrev pub anything : Own S V → ℕ → ℕ → Own S V → Type 0
   anything before old new after = Unit {0}
 
+  -- an insider to which the use allows the step on the word; it carries the slot that it keeps
+  pub record InsideStep (k : Plan X) (me : Seated S V) (word : ℕ) (change : ℕ → ℕ) : Type 0 where
+    pub pass : me.0.role ≡ Pass
+    pub room : ℕ
+    pub ticket : ℕ
+    pub turn : ℕ
+    pub to : ℕ
+    pub first : Option ℕ
+    pub inside : me.0.phase ≡ Inside room ticket first turn to
+    pub exists : word < M.words k.usage
+    pub carries : Carries (M.keeps me.0.user) me.1
+    pub can : CanStep M k.usage me.0.who me.0.user word change room turn (held_in me.1)
+        (λ n. Unit {0}) anything
+
+  -- the key's holder, to which the use allows the step on the word
+  pub record KeyStep (k : Plan X) (me : Seated S V) (word : ℕ) (change : ℕ → ℕ) : Type 0 where
+    pub pass : me.0.role ≡ Pass
+    pub room : ℕ
+    pub turn : ℕ
+    pub exiting : me.0.phase ≡ Exiting room turn
+    pub exists : word < M.words k.usage
+    pub can : CanExit M k.usage me.0.who me.0.user word change room turn me.0.kept anything
+
+  -- a caller outside all rooms, to which the use allows the step on the word
+  pub record TouchStep (k : Plan X) (me : Seated S V) (word : ℕ) (change : ℕ → ℕ) : Type 0 where
+    pub pass : me.0.role ≡ Pass
+    pub out : me.0.phase ≡ Out
+    pub exists : word < M.words k.usage
+    pub can : CanTouch M k.usage me.0.who me.0.user word change (λ n. Unit {0}) anything
+
+  -- the step of the row of a caller's phase, on the word of that row
+  abbrev pub StepsAreActs : Type 0
+  StepsAreActs = (k : Plan X) (slots id : ℕ) (me : Seated S V) (mv : Move)
+      → RowStep k me mv
+      → IsEvent M rooms k slots id me (place rooms mv.word) (value_of mv.kind)
+      (λ n me'. stepped_by M rooms me (number_told mv.kind n) me') Step
+
+  -- the add by which a caller that is out draws
+  abbrev pub DrawsAreActs : Type 0
+  DrawsAreActs = (k : Plan X) (slots id : ℕ) (me : Seated S V) (room : ℕ)
+      → Drawer k me room
+      → IsEvent M rooms k slots id me (place rooms (Wait room)) (λ n. (n + 1) % 2 ^ 64)
+      (λ n me'. me' ≡ (moved me.0 (Draw room) (drawing_move room) n me.0.seen, me.1)) (Draw room)
+
+  -- the add by which an insider leaves
+  abbrev pub LeavesAreActs : Type 0
+  LeavesAreActs = (k : Plan X) (slots id : ℕ) (me : Seated S V) (room : ℕ)
+      → Leaver k me room
+      → IsEvent M rooms k slots id me (place rooms (Done room)) (λ n. (n + 1) % 2 ^ 64)
+      (λ n me'. left_by me n me') Leave
+
   -- a step of an insider on a user word, which the use allows; it may move a slot
   abbrev pub InsidersKeepIt : Type 0
-  InsidersKeepIt = (k : Plan X) (slots id : ℕ) (me : Seated S V)
-      (room ticket turn to word : ℕ) (first : Option ℕ) (change : ℕ → ℕ)
-      → me.0.role ≡ Pass
-      → me.0.phase ≡ Inside room ticket first turn to
-      → word < M.words k.usage
-      → Carries (M.keeps me.0.user) me.1
-      → CanStep M k.usage me.0.who me.0.user word change room turn (held_in me.1) (λ n. Unit {0})
-      anything
+  InsidersKeepIt = (k : Plan X) (slots id : ℕ) (me : Seated S V) (word : ℕ) (change : ℕ → ℕ)
+      → InsideStep k me word change
       → IsNoEvent M rooms k slots id me (user_place rooms word) change (λ n me'. Unit {0})
 
   -- a step of the key's holder on a user word, which the use allows
   abbrev pub HoldersKeepIt : Type 0
-  HoldersKeepIt = (k : Plan X) (slots id : ℕ) (me : Seated S V) (room turn word : ℕ) (change : ℕ → ℕ)
-      → me.0.role ≡ Pass
-      → me.0.phase ≡ Exiting room turn
-      → word < M.words k.usage
-      → CanExit M k.usage me.0.who me.0.user word change room turn me.0.kept anything
+  HoldersKeepIt = (k : Plan X) (slots id : ℕ) (me : Seated S V) (word : ℕ) (change : ℕ → ℕ)
+      → KeyStep k me word change
       → IsNoEvent M rooms k slots id me (user_place rooms word) change (λ n me'. Unit {0})
 
   -- a step of a caller outside all rooms on a user word, which the use allows
   abbrev pub TouchesKeepIt : Type 0
   TouchesKeepIt = (k : Plan X) (slots id : ℕ) (me : Seated S V) (word : ℕ) (change : ℕ → ℕ)
-      → me.0.role ≡ Pass
-      → me.0.phase ≡ Out
-      → word < M.words k.usage
-      → CanTouch M k.usage me.0.who me.0.user word change (λ n. Unit {0}) anything
+      → TouchStep k me word change
       → IsNoEvent M rooms k slots id me (user_place rooms word) change (λ n me'. Unit {0})

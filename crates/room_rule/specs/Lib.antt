@@ -10,3 +10,6 @@ pub mod Looking
 pub mod Closes
 pub mod Plainly
 pub mod Following
+pub mod States
+pub mod Writers
+pub mod Quietly

@@ -7,8 +7,8 @@ use Rattle.room_core.specs.Trace.{all_opened}
 use Rattle.room_rule.specs.Use.{IsAt}
 
 -- the one list of openings, the earliest first
-abbrev pub openings_of : World → List Opening
-openings_of world = all_opened (trace world.history)
+abbrev pub world_openings : World → List Opening
+world_openings world = all_opened (trace world.history)
 
 -- the part is the beginning of the whole
 abbrev pub StartsWith : {A : Type 0} → List A → List A → Type 0

@@ -12,7 +12,7 @@ use Rattle.room_core.specs.Trace.{openings, since}
 use Rattle.room_core.specs.Runs.{Reached}
 use Rattle.room_core.specs.Gate.{gate}
 use Rattle.room_rule.specs.Use.{IsAt, Content, Meaning, ShowsWords}
-use Rattle.room_rule.specs.Openings.{openings_of, StartsWith, IsAmong}
+use Rattle.room_rule.specs.Openings.{world_openings, StartsWith, IsAmong}
 use Rattle.room_rule.specs.declared.rule.Plan.{Plan}
 use Rattle.room_rule.specs.declared.views.Role.{Role}
 use Rattle.room_rule.specs.declared.views.Role.TheVariants.{Maker, Pass, Note, Keeper, Gone}
@@ -33,8 +33,8 @@ module _ {V : Type 0} (world : World) (views : List V) (roll : Roll) (id : ℕ) 
     pub phase : phase_of world.state v.who ≡ v.phase
     pub draws : slice_index world.state.draws v.who ≡ v.draws
     pub user : IsAt views v.who v.user
-    pub seen : StartsWith (openings_of world) v.seen
-    pub known : IsAmong (openings_of world) v.known
+    pub seen : StartsWith (world_openings world) v.seen
+    pub known : IsAmong (world_openings world) v.known
 
   -- a caller whose pass the seat has taken in: it is out, with its last user view
   pub record IsTakenIn (e : Ended V) : Type 0 where
@@ -47,7 +47,7 @@ module _ {V : Type 0} (world : World) (views : List V) (roll : Roll) (id : ℕ) 
   abbrev pub Knows : Role → Shown V → Type 0
   Knows Maker v = (id ≡ roll.maker) × (v.who ≡ roll.made)
   Knows Pass v = IsCaller v
-  Knows Note v = StartsWith (openings_of world) v.seen
+  Knows Note v = StartsWith (world_openings world) v.seen
   Knows Keeper v = (i : ℕ) (e : Ended V) → IsAt v.ended i e → IsTakenIn e
   Knows Gone v = Unit {0}
 

@@ -1,5 +1,5 @@
--- What a step on a user word asks of its caller.
-use Rattle.std.specs.Prelude.{ℕ, ◌^◌, ◌<◌, Bool, Option, None, List, slice_index}
+-- What a step on a user word asks of its caller, and what was so when it was made.
+use Rattle.std.specs.Prelude.{◌≡◌, ℕ, ◌^◌, ◌<◌, Bool, Option, None, List, slice_index}
 use Rattle.room_core.specs.Gate.{Gate, Held, Keyed}
 use Rattle.room_rule.specs.Use.{Content, Own, own, contents_of, held_after, UserStep, user_step, Meaning}
 use Rattle.room_rule.specs.Use.{StandsInside, HasKey, StandsOutside, ShowsWords}
@@ -42,3 +42,39 @@ module _ {X S V : Type 0} (M : Meaning X S V) (x : X) (who : ℕ) (v : V) (word 
       → slice_index s.words word < 2 ^ 64
       → fits (slice_index s.words word)
       × CanGo None (λ after. None) (M.may_touch x) then s gate
+
+-- A step that was made, from `old` to `value`: in a content and at a gate at which its caller stood so
+-- the word was `old`, and the step was one of those that the caller may take there, with the view and
+-- the slot that it has after it.
+pub record IsMade {S V : Type 0} (stood : Content S V → Gate → Type 0) (may : UserStep S V → Type 0)
+    (holds : Content S V → V → Option (Option S)) (who word : ℕ) (before : Own S V) (old value : ℕ)
+    (after : Own S V) : Type 0 where
+  pub content : Content S V
+  pub gate : Gate
+  pub stands : stood content gate
+  pub found : slice_index content.words word ≡ old
+  pub allowed : may (user_step content gate who word value after.user (contents_of before.held))
+  pub held : after.held ≡ holds content after.user
+
+module _ {X S V : Type 0} (M : Meaning X S V) (x : X) (who word : ℕ) where
+  -- by an insider of the room in its turn
+  abbrev pub StepMade : ℕ → ℕ → Own S V → ℕ → ℕ → Own S V → Type 0
+  StepMade room turn before old value after = IsMade
+      (λ s gate. (ins : ℕ → Bool) × (gate ≡ Held room turn ins)
+      × StandsInside M x room turn ins who before.user s)
+      (M.may_step x room)
+      (λ s u. held_after s.slots (M.keeps before.user) (M.keeps u) before.held)
+      who word before old value after
+
+  -- by the key's holder, when the words stood as `kept` shows
+  abbrev pub ExitMade : ℕ → ℕ → List ℕ → Own S V → ℕ → ℕ → Own S V → Type 0
+  ExitMade room turn kept before old value after = IsMade
+      (λ s gate. (gate ≡ Keyed room turn who) × HasKey M x room turn who before.user s
+      × ShowsWords M x kept s.words)
+      (M.may_exit x room) (λ s u. None) who word before old value after
+
+  -- by a caller outside all rooms
+  abbrev pub TouchMade : Own S V → ℕ → ℕ → Own S V → Type 0
+  TouchMade before old value after = IsMade
+      (λ s gate. StandsOutside M x gate who before.user s)
+      (M.may_touch x) (λ s u. None) who word before old value after

@@ -13,9 +13,12 @@ IsAt xs i a = get_elem? xs i ≡ some a
 abbrev pub user_place : ℕ → ℕ → ℕ
 user_place m u = 1 + 3 * m + u
 
--- of each slot: it is out, or at home with its contents
+-- a slot: it is out, or at home with its contents
+abbrev pub Place : Type 0 → Type 0
+Place S = maybe.Option (Option S)
+
 abbrev pub Slots : Type 0 → Type 0
-Slots S = List (maybe.Option (Option S))
+Slots S = List (Place S)
 
 -- what a table holds for a use: its words, its slots, and a view for each caller, by the callers'
 -- numbers
@@ -38,7 +41,7 @@ contents_of None = None
 contents_of (Some contents) = contents
 
 -- the contents of a slot that is at home
-abbrev pub at_home : {S : Type 0} → maybe.Option (maybe.Option (Option S)) → Option S
+abbrev pub at_home : {S : Type 0} → maybe.Option (Place S) → Option S
 at_home (some (some contents)) = contents
 at_home _ = None
 

@@ -4,7 +4,8 @@ ghost use Rattle.room_rule.specs.Use.{Own, Meaning};
 ghost use Rattle.room_rule.specs.Laws.{Laws};
 
 /// A use of rooms. Its meaning is over plain data, the words and slots of the use, a view for each
-/// caller and the gate, and so are its laws: they speak of no thread, no token and no table.
+/// caller and the gate, and so are its laws: they speak of no thread, no token and no table. The laws
+/// range over every room number. No clause says that `words`, `slots` and `start` return.
 pub trait RoomUse: Drop {
     /// What one caller's view holds. No value of it is made.
     type View;

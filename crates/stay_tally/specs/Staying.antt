@@ -6,8 +6,8 @@ use Rattle.stay_tally.specs.declared.uses.Stays.{Stays}
 use Rattle.stay_tally.specs.Tally.{counts}
 
 -- the step: what the caller had before, the word's numbers, and what it has after
-abbrev pub counted : ℕ → ℕ → Own (Unit {0}) Stays → ℕ → ℕ → Own (Unit {0}) Stays → Type 0
-counted room turn before old new after = after.user ≡ counts room turn before.user
+abbrev pub counts_stay : ℕ → ℕ → Own (Unit {0}) Stays → ℕ → ℕ → Own (Unit {0}) Stays → Type 0
+counts_stay room turn before old new after = after.user ≡ counts room turn before.user
 
 -- an insider counted its stay, and nothing else is changed
 abbrev pub HasCounted_inside : Insider (Unit {0}) Stays → Insider (Unit {0}) Stays → Type 0

@@ -1,6 +1,6 @@
 //! A stay: entering a room, counting the stay there, and leaving.
 ghost use Rattle.std.specs.Prelude.{◌≡◌, ◌^◌, ◌<◌, ◌≤◌, ◌≢◌};
-ghost use Rattle.stay_tally.specs.Staying.{counted, HasCounted, HasCounted_inside, Answers};
+ghost use Rattle.stay_tally.specs.Staying.{counts_stay, HasCounted, HasCounted_inside, Answers};
 
 use crate::uses::Tally;
 use room_gate::{Entered, ExitCode, Inside, Key, Left, Pass, Rooms};
@@ -14,7 +14,7 @@ struct Counting {
 }
 
 impl Outcome<Tally> for Counting {
-    ghost then = { λ c. counted c.room c.turn };
+    ghost then = { λ c. counts_stay c.room c.turn };
 }
 
 /// The exit code of the tally, whose words need none.

@@ -1,7 +1,0 @@
-use Rattle.std.proofs.Common.{◌+◌}
-use Rattle.room_gate.specs.Stepping.{stepped_to}
-use Rattle.room_gate.proofs.set_ups.Rooms.add.Given as goal
-
-abbrev pub ghosts-add_as : goal.ghosts-add_as
-ghosts-add_as g a =
-    record { tells = stepped_to g.U.RoomUse.meaning (g.M.Outcome.then a._what.now) (λ n. n + a.by) }

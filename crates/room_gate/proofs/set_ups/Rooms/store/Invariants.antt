@@ -1,6 +1,0 @@
-use Rattle.room_gate.specs.Stepping.{stored}
-use Rattle.room_gate.proofs.set_ups.Rooms.store.Given as goal
-
-abbrev pub ghosts-store_as : goal.ghosts-store_as
-ghosts-store_as g a =
-    record { tells = stored g.U.RoomUse.meaning (g.M.Outcome.then a._what.now) }

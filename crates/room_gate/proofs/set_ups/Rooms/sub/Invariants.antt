@@ -1,7 +1,0 @@
-use Rattle.std.proofs.Common.{◌-◌}
-use Rattle.room_gate.specs.Stepping.{stepped_to}
-use Rattle.room_gate.proofs.set_ups.Rooms.sub.Given as goal
-
-abbrev pub ghosts-sub_as : goal.ghosts-sub_as
-ghosts-sub_as g a =
-    record { tells = stepped_to g.U.RoomUse.meaning (g.M.Outcome.then a._what.now) (λ n. n - a.by) }

@@ -1,7 +1,0 @@
-use Rattle.std.proofs.Common.{◌+◌}
-use Rattle.room_gate.specs.Stepping.{touched_to}
-use Rattle.room_gate.proofs.set_ups.Rooms.touch_add.Given as goal
-
-abbrev pub ghosts-add_as : goal.ghosts-add_as
-ghosts-add_as g a =
-    record { tells = touched_to g.U.RoomUse.meaning (g.M.Outcome.then a._what.now) (λ n. n + a.by) }
