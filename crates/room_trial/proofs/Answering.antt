@@ -13,11 +13,11 @@ use Rattle.bay_rule.specs.declared.views.BayView.{BayView}
 use Rattle.bay_store.specs.Calls.{Calls, StaysOut}
 use Rattle.bay_store.specs.Sharing.{held_called}
 use Rattle.bay_store.specs.declared.receipts.Receipt.{Receipt}
-use Rattle.room_history.specs.Told.{told}
+use Rattle.bay_core.specs.Told.{told}
 use Rattle.room_script.specs.declared.trials.Line.{Line}
 use Rattle.room_trial.specs.Scripts.{asked, called, taken_of, items_taken}
 use Rattle.room_trial.specs.Callers.{Answers}
-use Rattle.room_history.proofs.Telling.{told_more, goes_further}
+use Rattle.bay_core.proofs.Telling.{told_more, goes_further}
 
 -- the caller after calls, by the numbers of its draws and its shares
 abbrev called_to : Caller BayView → Caller BayView → ℕ → ℕ → Caller BayView

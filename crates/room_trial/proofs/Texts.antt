@@ -13,7 +13,7 @@ use Rattle.std.proofs.lemmas.List.FromFn.{map-range_with_len_more}
 use Rattle.bay_core.specs.declared.calls.Entry.{Entry}
 use Rattle.bay_core.specs.Contents.{Contents, empty}
 use Rattle.bay_core.specs.Replay.{Replays}
-use Rattle.room_history.specs.Merging.{of_caller, AreOwn}
+use Rattle.bay_core.specs.Told.{of_caller, AreOwn}
 use Rattle.room_history.specs.Prints.{entry_line, state_text}
 use Rattle.room_script.specs.declared.trials.Line.{Line}
 use Rattle.room_script.specs.Trials.{Outline}

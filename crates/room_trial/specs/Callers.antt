@@ -4,7 +4,7 @@ use Rattle.room_gate.specs.Shows.{Caller}
 use Rattle.bay_core.specs.declared.calls.Entry.{Entry}
 use Rattle.bay_core.specs.History.{own, GoesOn}
 use Rattle.bay_rule.specs.declared.views.BayView.{BayView}
-use Rattle.room_history.specs.Told.{told}
+use Rattle.bay_core.specs.Told.{told}
 use Rattle.room_script.specs.declared.trials.Line.{Line}
 use Rattle.room_trial.specs.Scripts.{asked, called, items_taken}
 
