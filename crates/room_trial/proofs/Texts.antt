@@ -11,13 +11,12 @@ use Rattle.std.proofs.lemmas.List.Concat.{flat_map-cons}
 use Rattle.std.proofs.lemmas.List.Folds.{flat_map-map}
 use Rattle.std.proofs.lemmas.List.FromFn.{map-range_with_len_more}
 use Rattle.bay_core.specs.declared.calls.Entry.{Entry}
-use Rattle.bay_core.specs.Contents.{Contents, empty}
-use Rattle.bay_core.specs.Replay.{Replays}
 use Rattle.room_history.specs.Merging.{of_caller, AreOwn}
-use Rattle.room_history.specs.Prints.{entry_line, state_text}
+use Rattle.room_history.specs.Prints.{entry_line, lists_text}
 use Rattle.room_script.specs.declared.trials.Line.{Line}
 use Rattle.room_script.specs.Trials.{Outline}
-use Rattle.room_trial.specs.Histories.{script_of, AreOfOneBay, IsMerged, AreAnswers}
+use Rattle.room_trial.specs.Histories.{script_of, lists_of, AreOfOneBay, IsMerged, AreAnswers}
+use Rattle.room_trial.specs.declared.crews.Played.{Played}
 use Rattle.room_trial.specs.Texts.{answered_line, answered_below, answered_text, IsTrialText}
 
 -- lines that are the same at each number of a range are the same
@@ -41,22 +40,27 @@ answered_same o lists es own many =
     (λ c low high. ap (λ k. answered_line c (length k) (length (script_of o c))) (own.own c (omega (arith, high, many))))
 
 -- the text of a trial, from what its callers brought back
-pub trial_told : (o : Outline) (lists : List (List Entry)) (es : List Entry) (left : Contents) (text : List ℕ)
-    → AreOfOneBay o lists → IsMerged o lists es → Replays o.layout o.blocks empty es left
-    → text ≡ flat_map entry_line es ++ (answered_below lists o.scripts (length o.scripts) ++ state_text left)
+pub trial_told : (o : Outline) (played : Played) (es : List Entry) (text : List ℕ)
+    → AreOfOneBay o (lists_of played) → IsMerged o played es
+    → text ≡ flat_map entry_line es
+    ++ (answered_below (lists_of played) o.scripts (length o.scripts)
+    ++ lists_text played.closed.stack.items played.closed.queue.items)
     → IsTrialText o text
-trial_told o lists es left text bay merged replays printed = record {
+trial_told o played es text bay merged printed = let lists = lists_of played in record {
   history = es;
-  left = left;
+  left = merged.left;
   is_history = record {
-    legal = record { replays = replays; ordered = merged.legal.1.ordered };
+    legal = merged.legal;
     roomed = merged.roomed;
     callers = subst (λ (n : ℕ). All (λ e. e.who < n) es) bay.many merged.own.callers;
     answers = λ c within.
         subst (AreAnswers o c) (merged.own.own c (omega (arith, within, bay.many))) (bay.answers c within);
   };
   printed = printed
-      ∙ ap (λ lines. flat_map entry_line es ++ (lines ++ state_text left)) (answered_same o lists es merged.own bay.many);
+      ∙ (ap (λ lines. flat_map entry_line es ++ (lines ++ lists_text played.closed.stack.items played.closed.queue.items))
+      (answered_same o lists es merged.own bay.many)
+      ∙ (ap (λ stack. flat_map entry_line es ++ (answered_text o es ++ lists_text stack played.closed.queue.items)) merged.stack
+      ∙ ap (λ queue. flat_map entry_line es ++ (answered_text o es ++ lists_text merged.left.stack queue)) merged.queue));
 }
 
 -- the lines of one caller more
@@ -80,10 +84,11 @@ read_length lists i k d within is =
     is ∙ ap (λ l. length l) (sym (get_or-map (λ (list : Vec _). list.items) lists i d [] within))
 
 -- if there was memory for it
-pub trial_printed : (o : Outline) (lists : List (List Entry)) (es : List Entry) (left : Contents)
-    (text : Result (Vec ℕ) AllocError)
-    → AreOfOneBay o lists → IsMerged o lists es → Replays o.layout o.blocks empty es left
-    → IfOk text (λ t. t.items ≡ flat_map entry_line es ++ (answered_below lists o.scripts (length o.scripts) ++ state_text left))
+pub trial_printed : (o : Outline) (played : Played) (es : List Entry) (text : Result (Vec ℕ) AllocError)
+    → AreOfOneBay o (lists_of played) → IsMerged o played es
+    → IfOk text (λ t. t.items ≡ flat_map entry_line es
+    ++ (answered_below (lists_of played) o.scripts (length o.scripts)
+    ++ lists_text played.closed.stack.items played.closed.queue.items))
     → IfOk text (λ t. IsTrialText o t.items)
-trial_printed o lists es left (Ok t) bay merged replays printed = trial_told o lists es left t.items bay merged replays printed
-trial_printed o lists es left (Err e) bay merged replays printed = tt
+trial_printed o played es (Ok t) bay merged printed = trial_told o played es t.items bay merged printed
+trial_printed o played es (Err e) bay merged printed = tt

@@ -1,15 +1,17 @@
 -- The history of a trial.
-use Rattle.std.specs.Prelude.{◌≡◌, ℕ, ◌<◌, List, [], length, map, take, slice_index_or, All, reverse}
+use Rattle.std.specs.Prelude.{◌≡◌, ℕ, ◌+◌, ◌<◌, List, [], length, map, take, slice_index_or, All, reverse}
+use Rattle.std.specs.List.{sum_by}
 use Rattle.bay_core.specs.declared.calls.Entry.{Entry}
 use Rattle.bay_core.specs.declared.calls.Noted.{Noted}
 use Rattle.bay_core.specs.Contents.{Contents}
-use Rattle.bay_core.specs.Noted.{entries}
+use Rattle.bay_core.specs.Noted.{after, entries}
 use Rattle.bay_core.specs.History.{IsHistory}
 use Rattle.bay_core.specs.Legal.{IsLegal, IsRoomed}
 use Rattle.room_history.specs.Merging.{of_caller, AreOwn}
 use Rattle.room_script.specs.declared.trials.Line.{Line}
 use Rattle.room_script.specs.Trials.{Outline}
-use Rattle.room_trial.specs.Scripts.{asked, called}
+use Rattle.room_trial.specs.Scripts.{asked, called, items_taken}
+use Rattle.room_trial.specs.declared.crews.Played.{Played}
 
 -- the script of a caller
 abbrev pub script_of : Outline → ℕ → List Line
@@ -28,6 +30,10 @@ pub record IsTrialHistory (o : Outline) (es : List Entry) (s : Contents) : Type 
   pub callers : All (λ e. e.who < length o.scripts) es
   pub answers : (caller : ℕ) → caller < length o.scripts → AreAnswers o caller (of_caller caller es)
 
+-- the lists of entries that callers brought back
+abbrev pub lists_of : Played → List (List Entry)
+lists_of played = map (λ list. list.items) played.entries.items
+
 -- the lists are the callers' own entries of one bay's history, caller by caller
 pub record AreOfOneBay (o : Outline) (lists : List (List Entry)) : Type 0 where
   pub history : List Noted
@@ -36,8 +42,26 @@ pub record AreOfOneBay (o : Outline) (lists : List (List Entry)) : Type 0 where
   pub many : length lists ≡ length o.scripts
   pub answers : (caller : ℕ) → caller < length o.scripts → AreAnswers o caller (slice_index_or lists caller [])
 
--- the entries are the callers' own in one legal and roomed history
-pub record IsMerged (o : Outline) (lists : List (List Entry)) (es : List Entry) : Type 0 where
-  pub legal : (left : Contents) × IsLegal o.layout o.blocks es left
+-- the shares of callers with these entries: the one of each at first, and that of each item taken
+abbrev pub shares_after : List (List Entry) → ℕ
+shares_after lists = sum_by (λ es. 1 + items_taken es) lists
+
+-- What the callers of a trial did, and what their bay closed with: the lists that the one history of
+-- their calls leaves, and in `live` their items and the callers' shares.
+pub record IsPlayed (o : Outline) (played : Played) : Type 0 where
+  pub bay : AreOfOneBay o (lists_of played)
+  pub stack : played.closed.stack.items ≡ (after bay.history).stack
+  pub queue : played.closed.queue.items ≡ (after bay.history).queue
+  pub live : played.closed.live
+      ≡ length played.closed.stack.items + length played.closed.queue.items + shares_after (lists_of played)
+  pub blocks_free : played.closed.blocks_free ≡ 0
+
+-- the entries are the callers' own in one legal and roomed history, which leaves s: the lists that the
+-- bay closed with
+pub record IsMerged (o : Outline) (played : Played) (es : List Entry) : Type 0 where
+  pub left : Contents
+  pub legal : IsLegal o.layout o.blocks es left
   pub roomed : IsRoomed es
-  pub own : AreOwn lists es
+  pub own : AreOwn (lists_of played) es
+  pub stack : played.closed.stack.items ≡ left.stack
+  pub queue : played.closed.queue.items ≡ left.queue

@@ -15,7 +15,7 @@ use Rattle.bay_store.specs.Sharing.{holding}
 use Rattle.bay_store.specs.declared.receipts.Receipt.{Receipt}
 use Rattle.room_history.specs.Told.{told}
 use Rattle.room_history.proofs.Telling.{told_more, told_same, goes_further}
-use Rattle.work_pool.specs.Gaining.{IsEmptied, EndsWith, Sees, SeesOn, Gains}
+use Rattle.work_pool.specs.Gaining.{IsEmptied, EndsWith, Sees, SeesOn, HearsNothing, Gains}
 
 -- what a caller has seen is what it had seen
 sees_same : (x : BayUse) (before now : Caller BayView) → now.who ≡ before.who
@@ -139,6 +139,28 @@ gains_quiet x a b es h q g =
         since = q.since;
       });
     }
+
+-- no load of `live`
+pub hears_none : (p : Caller BayView) → HearsNothing p p
+hears_none p = record { quiet_at = refl; loads = refl; bare_loads = refl; live = refl }
+
+pub hears_on : (a b c : Caller BayView) → HearsNothing a b → HearsNothing b c → HearsNothing a c
+hears_on a b c one two = record {
+  quiet_at = two.quiet_at ∙ one.quiet_at;
+  loads = two.loads ∙ one.loads;
+  bare_loads = two.bare_loads ∙ one.bare_loads;
+  live = two.live ∙ one.live;
+}
+
+-- nor does a call of the bay make one
+pub hears_call : (x : BayUse) (op : Op) (item : ℕ) (before now : Caller BayView) (r : Receipt)
+    → Calls x op item before now r → HearsNothing before now
+hears_call x op item before now r c = record {
+  quiet_at = ap (λ (p : Caller BayView). p.user.quiet_at) c.same;
+  loads = ap (λ (p : Caller BayView). p.user.loads) c.same;
+  bare_loads = ap (λ (p : Caller BayView). p.user.bare_loads) c.same;
+  live = ap (λ (p : Caller BayView). p.user.live) c.same;
+}
 
 -- one call of the bay
 module _ (x : BayUse) (op : Op) (item : ℕ) (before now : Caller BayView) (r : Receipt) (mine : before.user.mine ≡ own before.who before.user.seen) (c : Calls x op item before now r) where

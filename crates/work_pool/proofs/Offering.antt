@@ -32,16 +32,16 @@ module _ (x : BayUse) (before now : Caller BayView) (es : List Entry) (gains : G
   went_offer : (d : Deed) → es ≡ calls (d ∷ []) → length (missed (d ∷ [])) ≡ 0 → Went x before now (d ∷ [])
   went_offer d one none = record {
     gains = subst (λ l. Gains x before now l) one gains;
-    still = λ _. still.live;
-    loads = omega (arith, still.loads, none);
-    bare_loads = omega (arith, still.bare_loads, none);
+    still = λ _. still.hears.live;
+    loads = omega (arith, still.hears.loads, none);
+    bare_loads = omega (arith, still.hears.bare_loads, none);
   }
 
   loud_offer : Loud before now
   loud_offer = record {
-    loud = λ less. absurd (omega (arith, less, still.loads));
-    never = λ less. absurd (omega (arith, less, still.loads));
-    since = still.quiet_at;
+    loud = λ less. absurd (omega (arith, less, still.hears.loads));
+    never = λ less. absurd (omega (arith, less, still.hears.loads));
+    since = still.hears.quiet_at;
   }
 
 -- an entry took a draw

@@ -13,17 +13,14 @@ use Rattle.bay_store.specs.declared.receipts.Receipt.{Receipt}
 use Rattle.bay_store.specs.declared.receipts.Pushed.{Pushed}
 use Rattle.bay_store.specs.declared.receipts.Pushed.TheVariants as pushed
 use Rattle.work_pool.specs.Puts.{IsStill, PutsIn, PutsNone, Puts, answer_to}
-use Rattle.work_pool.proofs.Gaining.{gains_none, gains_call}
+use Rattle.work_pool.proofs.Gaining.{gains_none, gains_call, hears_none, hears_call}
 
 module _ (x : BayUse) (op : Op) (item : ℕ) (before now : Caller BayView) (mine : before.user.mine ≡ own before.who before.user.seen) where
   still_after : (r : Receipt) → Calls x op item before now r
       → held_called r.entry.reply before.user.held ≡ before.user.held → IsStill before now
   still_after r c held = record {
     held = ap (λ (p : Caller BayView). p.user.held) c.same ∙ held;
-    quiet_at = ap (λ (p : Caller BayView). p.user.quiet_at) c.same;
-    loads = ap (λ (p : Caller BayView). p.user.loads) c.same;
-    bare_loads = ap (λ (p : Caller BayView). p.user.bare_loads) c.same;
-    live = ap (λ (p : Caller BayView). p.user.live) c.same;
+    hears = hears_call x op item before now r c;
   }
 
   puts_in : (r : Receipt) (reply : Reply) → Calls x op item before now r → r.entry.reply ≡ reply
@@ -40,7 +37,7 @@ module _ (x : BayUse) (op : Op) (item : ℕ) (before now : Caller BayView) (mine
   puts_none limited out = subst (λ (p : Caller BayView). PutsNone x before p) (sym out.same) (record {
     gains = gains_none x before mine limited;
     spent = out.spent;
-    still = record { held = refl; quiet_at = refl; loads = refl; bare_loads = refl; live = refl };
+    still = record { held = refl; hears = hears_none before };
   })
 
   pub put_tells : before.draws ≤ before.limit → (p : Pushed) → PutGives x op item before now p

@@ -176,8 +176,7 @@ still_follows : (x : BayUse) (way : Way) (leads : ℕ → ℕ → Type 0) (b c :
 still_follows x way leads b c was r2 w past (Stored item e) rest may = may
 still_follows x way leads b c was r2 w past (Refused item e) rest may = may
 still_follows x way leads b c was r2 w past (Withheld item) rest may =
-    let g = w.gains in
-    (
+    let g = w.gains in (
       may.0,
       omega (arith, may.1, g.draws, g.limited, g.limit),
       flat_map-append call_of rest r2 ∙ both_none (calls rest) (calls r2) may.2 (g.drawn (omega (arith, may.1, g.draws, g.limited, g.limit))),
@@ -263,11 +262,11 @@ module _ (x : BayUse) (way : Way) (leads after : ℕ → ℕ → Type 0) (weaker
     first = (
       s.first.0 ++ t.first.0,
       ap (λ l. l ++ is.to_give) (flat_map-append offer_of r1 r2)
-      ∙ (append_assoc (offered r1) (offered r2) is.to_give
-      ∙ (ap (λ l. offered r1 ++ l) t.first.1
-      ∙ (sym (append_assoc (offered r1) mid.to_give t.first.0)
-      ∙ (ap (λ l. l ++ t.first.0) s.first.1
-      ∙ append_assoc was.to_give s.first.0 t.first.0)))),
+          ∙ (append_assoc (offered r1) (offered r2) is.to_give
+          ∙ (ap (λ l. offered r1 ++ l) t.first.1
+          ∙ (sym (append_assoc (offered r1) mid.to_give t.first.0)
+          ∙ (ap (λ l. l ++ t.first.0) s.first.1
+          ∙ append_assoc was.to_give s.first.0 t.first.0)))),
     );
     room = t.room;
   }

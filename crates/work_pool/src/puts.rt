@@ -33,7 +33,7 @@ impl<'a> Pool<'a> {
         ensures same_bay { result.0.caller.site ≡ hand.caller.site }
         ensures held { result.0.caller.user.held ≡ hand.caller.user.held }
     {
-        // What it has seen of its own calls before.
+        // What holds of each hand, which a proof sees by this call alone.
         let _who = hand.who();
         let Hand {
             pass,
