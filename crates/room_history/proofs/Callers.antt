@@ -8,7 +8,8 @@ use Rattle.std.proofs.lemmas.List.{append-nil, take_all, take_more}
 use Rattle.std.proofs.lemmas.List.Elements.{recursion_from_All}
 use Rattle.std.proofs.lemmas.List.Sorted.{IsPermutation-refl, IsPermutation-sym, IsPermutation-cons, IsPermutation-trans, IsPermutation-middle, IsPermutation-append_left}
 use Rattle.bay_core.specs.declared.calls.Entry.{Entry}
-use Rattle.room_history.specs.Merging.{given, of_caller, AreOwn}
+use Rattle.room_history.specs.Merging.{given}
+use Rattle.bay_core.specs.Told.{of_caller, AreOwn}
 
 -- the entries of the callers below n
 abbrev below : ℕ → List Entry → List Entry

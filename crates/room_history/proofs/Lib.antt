@@ -2,4 +2,3 @@ pub mod Chains
 pub mod Twins
 pub mod Callers
 pub mod Disorders
-pub mod Telling

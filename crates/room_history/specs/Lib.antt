@@ -1,4 +1,3 @@
 pub mod Order
 pub mod Merging
 pub mod Prints
-pub mod Told

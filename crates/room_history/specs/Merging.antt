@@ -1,6 +1,6 @@
 -- The entries of several callers as one list.
-use Rattle.std.specs.Prelude.{◌≡◌, ◌==◌, ◌&&◌, ℕ, ◌<◌, ◌≤◌, ◌⊎◌, Bool, List, [], length, slice_index_or, All, count_by}
-use Rattle.std.specs.List.{flat_map, filter, AllAdjacentBelow}
+use Rattle.std.specs.Prelude.{◌≡◌, ◌==◌, ◌&&◌, ℕ, ◌<◌, ◌≤◌, ◌⊎◌, Bool, List, length, count_by}
+use Rattle.std.specs.List.{flat_map, AllAdjacentBelow}
 use Rattle.bay_core.specs.declared.calls.Entry.{Entry}
 
 -- the entries of all lists, list by list
@@ -27,13 +27,3 @@ AreTwins es turn rank = 2 ≤ count_by (stands_at turn rank) es
 pub record IsLeastTwin (es : List Entry) (turn rank : ℕ) : Type 0 where
   pub twins : AreTwins es turn rank
   pub least : (t r : ℕ) → AreTwins es t r → AtMost turn rank t r
-
--- the entries of one caller
-abbrev pub of_caller : ℕ → List Entry → List Entry
-of_caller who es = filter (λ e. e.who == who) es
-
--- the lists are those of callers 0, 1 and so on: each has the entries among es of its caller, and
--- es has those of no other
-pub record AreOwn (lists : List (List Entry)) (es : List Entry) : Type 0 where
-  pub own : (who : ℕ) → who < length lists → slice_index_or lists who [] ≡ of_caller who es
-  pub callers : All (λ e. e.who < length lists) es

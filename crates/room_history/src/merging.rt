@@ -7,7 +7,8 @@ ghost use Rattle.bay_core.specs.declared.calls.Noted.{Noted};
 ghost use Rattle.bay_core.specs.Legal.{Ordered};
 ghost use Rattle.bay_core.specs.Noted.{entries};
 ghost use Rattle.bay_core.specs.History.{IsHistory};
-ghost use Rattle.room_history.specs.Merging.{given, IsRising, IsLeastTwin, AreOwn};
+ghost use Rattle.room_history.specs.Merging.{given, IsRising, IsLeastTwin};
+ghost use Rattle.bay_core.specs.Told.{AreOwn};
 
 use crate::order::first_disorder;
 use bay_core::Entry;

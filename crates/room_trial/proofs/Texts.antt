@@ -11,7 +11,7 @@ use Rattle.std.proofs.lemmas.List.Concat.{flat_map-cons}
 use Rattle.std.proofs.lemmas.List.Folds.{flat_map-map}
 use Rattle.std.proofs.lemmas.List.FromFn.{map-range_with_len_more}
 use Rattle.bay_core.specs.declared.calls.Entry.{Entry}
-use Rattle.room_history.specs.Merging.{of_caller, AreOwn}
+use Rattle.bay_core.specs.Told.{of_caller, AreOwn}
 use Rattle.room_history.specs.Prints.{entry_line, lists_text}
 use Rattle.room_script.specs.declared.trials.Line.{Line}
 use Rattle.room_script.specs.Trials.{Outline}

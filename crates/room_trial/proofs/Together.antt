@@ -31,7 +31,7 @@ use Rattle.bay_rule.specs.Views.{fresh_view}
 use Rattle.bay_rule.specs.declared.views.BayView.{BayView}
 use Rattle.bay_store.specs.Closing.{IsClosed, shares_of}
 use Rattle.bay_store.specs.declared.closes.Closed.{Closed}
-use Rattle.room_history.specs.Told.{told}
+use Rattle.bay_core.specs.Told.{told}
 use Rattle.room_script.specs.declared.trials.Line.{Line}
 use Rattle.room_script.specs.declared.trials.Trial.{Trial}
 use Rattle.room_script.specs.Trials.{Outline, outline_of}
@@ -40,7 +40,7 @@ use Rattle.room_trial.specs.Callers.{Answers}
 use Rattle.room_trial.specs.Crews.{IsReady, EndsWell}
 use Rattle.room_trial.specs.Histories.{script_of, AreAnswers, IsPlayed, shares_after}
 use Rattle.room_trial.specs.declared.callers.CallerEnd.{CallerEnd}
-use Rattle.room_history.proofs.Telling.{told_same}
+use Rattle.bay_core.proofs.Telling.{told_same}
 
 abbrev pub Fresh : TableId → ℕ → ℕ → List (Caller BayView) → Type 0
 Fresh site limit callers passes = ArePasses site limit (λ who. fresh_view 1) callers passes

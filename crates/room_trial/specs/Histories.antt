@@ -7,7 +7,7 @@ use Rattle.bay_core.specs.Contents.{Contents}
 use Rattle.bay_core.specs.Noted.{after, entries}
 use Rattle.bay_core.specs.History.{IsHistory}
 use Rattle.bay_core.specs.Legal.{IsLegal, IsRoomed}
-use Rattle.room_history.specs.Merging.{of_caller, AreOwn}
+use Rattle.bay_core.specs.Told.{of_caller, AreOwn}
 use Rattle.room_script.specs.declared.trials.Line.{Line}
 use Rattle.room_script.specs.Trials.{Outline}
 use Rattle.room_trial.specs.Scripts.{asked, called, items_taken}

@@ -3,7 +3,7 @@ use Rattle.std.specs.Prelude.{◌≡◌, ℕ, List, [], ◌++◌, length, slice_
 use Rattle.std.specs.List.{flat_map, range_with_len}
 use Rattle.bay_core.specs.declared.calls.Entry.{Entry}
 use Rattle.bay_core.specs.Contents.{Contents}
-use Rattle.room_history.specs.Merging.{of_caller}
+use Rattle.bay_core.specs.Told.{of_caller}
 use Rattle.room_history.specs.Prints.{entry_line, state_text}
 use Rattle.room_script.specs.declared.trials.Line.{Line}
 use Rattle.room_script.specs.Trials.{Outline}

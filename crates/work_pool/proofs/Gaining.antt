@@ -13,8 +13,8 @@ use Rattle.bay_store.specs.Calls.{Calls}
 use Rattle.bay_store.specs.Quiet.{hearing, hearing_quiet, IsQuietFor}
 use Rattle.bay_store.specs.Sharing.{holding}
 use Rattle.bay_store.specs.declared.receipts.Receipt.{Receipt}
-use Rattle.room_history.specs.Told.{told}
-use Rattle.room_history.proofs.Telling.{told_more, told_same, goes_further}
+use Rattle.bay_core.specs.Told.{told}
+use Rattle.bay_core.proofs.Telling.{told_more, told_same, goes_further}
 use Rattle.work_pool.specs.Gaining.{IsEmptied, EndsWith, Sees, SeesOn, HearsNothing, Gains}
 
 -- what a caller has seen is what it had seen

@@ -8,7 +8,7 @@ use Rattle.bay_core.specs.History.{IsHistory, own, GoesOn}
 use Rattle.bay_rule.specs.declared.bay_use.BayUse.{BayUse}
 use Rattle.bay_rule.specs.declared.views.BayView.{BayView}
 use Rattle.bay_rule.specs.Newest.{EmptySince}
-use Rattle.room_history.specs.Told.{told}
+use Rattle.bay_core.specs.Told.{told}
 
 -- the history leaves no item in either list
 abbrev pub IsEmptied : List Noted → Type 0
