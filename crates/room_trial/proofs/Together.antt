@@ -1,12 +1,12 @@
 -- What the callers of a trial bring back is of one bay.
-use Rattle.std.proofs.Common.{◌≡◌, ℕ, suc, ◌+◌, ◌<◌, ◌≤◌, inl, inr, List, [], ◌∷◌, length, map, take, get_or, reverse, refl, sym, ap, ◌∙◌, subst, arith}
+use Rattle.std.proofs.Common.{◌≡◌, ℕ, suc, ◌+◌, ◌/◌, ◌<◌, ◌≤◌, inl, inr, List, [], ◌∷◌, length, map, take, get_or, reverse, refl, sym, ap, ◌∙◌, subst, arith}
 use Rattle.std.specs.Prelude.{slice_index_or, IfOk, Ok}
 use Rattle.std.specs.List.{AllByRecursion, sum_by}
 use Rattle.std.specs.declared.result.Result.{Result}
 use Rattle.std.specs.Global.{Vec}
 use Rattle.std.specs.declared.alloc.AllocError.{AllocError}
 use mathlib.Core.List.{reverse_aux}
-use Rattle.std.proofs.lemmas.List.{length-map, take_all}
+use Rattle.std.proofs.lemmas.List.{length-map}
 use Rattle.std.proofs.lemmas.List.Sums.{sum_by-cons}
 use Rattle.std.proofs.lemmas.List.Elements.{All-from_recursion}
 use Rattle.atomic_table.specs.Seated.{TableId}
@@ -21,26 +21,28 @@ use Rattle.room_gate.specs.Together.{EachGives}
 use Rattle.room_gate.proofs.Closing.{numbered_are_all}
 use Rattle.room_gate.proofs.Together.{thing_at, given_at}
 use Rattle.bay_core.specs.declared.calls.Layout.{Layout}
-use Rattle.bay_core.specs.declared.calls.Layout.TheVariants.{Split}
+use Rattle.bay_core.specs.declared.calls.Layout.TheVariants.{Split, Paged}
 use Rattle.bay_core.specs.declared.calls.Entry.{Entry}
 use Rattle.bay_core.specs.declared.calls.Noted.{Noted}
-use Rattle.bay_core.specs.Noted.{entries}
+use Rattle.bay_core.specs.Noted.{after, entries}
 use Rattle.bay_core.specs.History.{IsHistory, own}
 use Rattle.bay_rule.specs.declared.bay_use.BayUse.{BayUse}
 use Rattle.bay_rule.specs.Views.{fresh_view}
 use Rattle.bay_rule.specs.declared.views.BayView.{BayView}
-use Rattle.bay_store.specs.Closing.{IsClosed, shares_of}
+use Rattle.bay_store.specs.Closing.{AreFree, IsClosed, shares_of}
 use Rattle.bay_store.specs.declared.closes.Closed.{Closed}
 use Rattle.bay_core.specs.Told.{told}
 use Rattle.room_script.specs.declared.trials.Line.{Line}
 use Rattle.room_script.specs.declared.trials.Trial.{Trial}
 use Rattle.room_script.specs.Trials.{Outline, outline_of}
 use Rattle.room_trial.specs.Scripts.{asked, called, items_taken}
-use Rattle.room_trial.specs.Callers.{Answers}
+use Rattle.room_trial.specs.Callers.{MayOverflow, Answers}
 use Rattle.room_trial.specs.Crews.{IsReady, EndsWell}
-use Rattle.room_trial.specs.Histories.{script_of, AreAnswers, IsPlayed, shares_after}
+use Rattle.room_trial.specs.Histories.{script_of, UsesDraws, AreAnswers, IsPlayed, shares_after}
 use Rattle.room_trial.specs.declared.callers.CallerEnd.{CallerEnd}
 use Rattle.bay_core.proofs.Telling.{told_same}
+use Rattle.bay_rule.specs.Draws.{dones}
+use Rattle.room_trial.proofs.Counting.{many_told, dones_in_order}
 
 abbrev pub Fresh : TableId → ℕ → ℕ → List (Caller BayView) → Type 0
 Fresh site limit callers passes = ArePasses site limit (λ who. fresh_view 1) callers passes
@@ -59,10 +61,6 @@ ready site limit callers passes are i p h is =
       who = omega (arith, h, are.long);
       share = omega arith;
     })
-
--- only one layout is there
-split_alone : (l : Layout) → l ≡ Split
-split_alone Split = refl
 
 all_back_to_front : {A : Type 0} (P : A → Type 0) (xs ys : List A) → AllByRecursion P xs → AllByRecursion P ys
     → AllByRecursion P (reverse_aux xs ys)
@@ -101,19 +99,11 @@ came_so x site trial callers scripts passes back ends lists read many fresh same
   parted_entries = parted_entries;
 }
 
--- a caller's answers, by the draws that it had
-whole_answer : (x : BayUse) (draws : ℕ) (lines : List Line) (before now : Caller BayView) (es : List Entry)
-    → before.draws ≡ 0 → before.limit ≡ draws → Answers x lines before now es
-    → map called es ≡ take draws (map asked lines)
-whole_answer x draws lines before now es none limit a =
-    let long : length es ≤ draws = omega (arith, none, limit, a.drawn, a.gains.limited, a.gains.limit) in
-    elim a.whole [
-      | inl all ↦ a.answered
-          ∙ (take_all (length es) (map asked lines) (omega (arith, all, length-map lines asked))
-          ∙ sym (take_all draws (map asked lines) (omega (arith, all, long, length-map lines asked))))
-      | inr spent ↦ a.answered
-          ∙ ap (λ n. take n (map asked lines)) (omega (arith, none, limit, a.drawn, a.gains.limit, spent))
-    ]
+-- whether a caller's draws were used, by how often it overflowed
+used_so : (layout : Layout) (draws lines again : ℕ) (es : List Entry) → MayOverflow layout again
+    → lines + again ≡ draws → draws ≤ lines + 2 + dones es / 64 → UsesDraws layout draws lines es
+used_so Split draws lines again es none are bound = omega (arith, none, are)
+used_so Paged draws lines again es none are bound = bound
 
 -- a list for which there was memory
 abbrev some_list : Vec Entry → Result (Vec Entry) AllocError
@@ -179,10 +169,10 @@ module _ (x : BayUse) (site : TableId) (o : Outline) (passes back : List (Caller
   pub all_back : AreAll site callers back
   all_back = numbered_are_all site callers back long_back its_own
 
-  module _ (closed : Closed) (is : IsClosed o.blocks callers back closed) where
+  module _ (closed : Closed) (layout : x.layout ≡ o.layout) (blocks : x.blocks ≡ o.blocks) (is : IsClosed x callers back closed) where
     -- the list of a caller has its entries in the history
     its_entries : (i : ℕ) (es : Vec Entry) → i < callers → IsAt lists i es
-        → (es.items ≡ told i is.history) × AreAnswers o i es.items
+        → (es.items ≡ told i is.history) × AreAnswers o (reverse (entries is.history)) i es.items
     its_entries i es within at =
         let p = thing_at back i (omega (arith, within, long_back)) in
         let of = came i p.0 p.1 in
@@ -190,10 +180,26 @@ module _ (x : BayUse) (site : TableId) (o : Outline) (passes back : List (Caller
         let did : Answers x (script_of o i) (new_pass site o.draws i) p.0 es.items =
         subst (λ (v : Vec Entry). Answers x (script_of o i) (new_pass site o.draws i) p.0 v.items) one of.2 in
         let who : p.0.who ≡ i = (its_own i p.0 p.1).1 in
-        let whole : own i is.history ≡ own i p.0.user.seen =
-        ap (λ w. own w is.history) (sym who) ∙ (sym (is.mine i p.0 p.1) ∙ did.gains.mine) in (
-          sym did.gains.gained ∙ sym (told_same i is.history p.0.user.seen (is.seen i p.0 p.1) whole),
-          whole_answer x o.draws (script_of o i) (new_pass site o.draws i) p.0 es.items refl refl did,
+        let own_of : p.0.user.mine ≡ own i is.history = is.mine i p.0 p.1 ∙ ap (λ w. own w is.history) who in
+        let whole : own i is.history ≡ own i p.0.user.seen = sym own_of ∙ did.gains.mine in
+        let tells : es.items ≡ told i is.history =
+        sym did.gains.gained ∙ sym (told_same i is.history p.0.user.seen (is.seen i p.0 p.1) whole) in
+        let draws = is.draws i p.0 p.1 in
+        let many : length p.0.user.mine ≡ length es.items =
+        omega (arith, ap length own_of, ap length tells, many_told i is.history) in
+        let stored = dones_in_order (entries is.history) in (
+          tells,
+          record {
+            first = did.answered;
+            drawn = omega (arith, did.drawn, did.gains.limited, did.gains.limit);
+            whole = elim did.whole [
+              | inl all ↦ inl all
+              | inr spent ↦ inr (used_so o.layout o.draws (length es.items) did.again (reverse (entries is.history))
+                  (subst (λ l. MayOverflow l did.again) layout did.overflows)
+                  (omega (arith, did.drawn, spent, did.gains.limit))
+                  (omega (arith, draws.1, many, stored, spent, did.gains.limit)))
+            ];
+          },
         )
 
     -- the shares of a caller
@@ -215,7 +221,8 @@ module _ (x : BayUse) (site : TableId) (o : Outline) (passes back : List (Caller
     of_played = record {
       bay = record {
         history = is.history;
-        legal = subst (λ (l : Layout). IsHistory l o.blocks is.history) (sym (split_alone o.layout)) is.legal;
+        legal = subst (λ (b : ℕ). IsHistory o.layout b is.history) blocks
+            (subst (λ (l : Layout). IsHistory l x.blocks is.history) layout is.legal);
         own = record {
           own = λ i within.
               let fits : i < callers = omega (arith, within, length-map lists (λ (list : Vec Entry). list.items), long_lists) in
@@ -233,11 +240,12 @@ module _ (x : BayUse) (site : TableId) (o : Outline) (passes back : List (Caller
             let es = thing_at lists i (omega (arith, within, long_lists)) in
             let read : get_or (map (λ list. list.items) lists) i [] ≡ es.0.items =
             read_at (map (λ list. list.items) lists) i es.0.items [] (at_map (λ (list : Vec Entry). list.items) lists i es.0 es.1) in
-            subst (AreAnswers o i) (sym read) (its_entries i es.0 within es.1).1;
+            subst (AreAnswers o (reverse (entries is.history)) i) (sym read) (its_entries i es.0 within es.1).1;
       };
       stack = is.stack;
       queue = is.queue;
       live = is.live
           ∙ omega (arith, ap length is.stack, ap length is.queue, all_shares);
-      blocks_free = is.blocks_free;
+      blocks_free = subst (λ (b : ℕ). AreFree o.layout b (after is.history) closed.blocks_free) blocks
+          (subst (λ (l : Layout). AreFree l x.blocks (after is.history) closed.blocks_free) layout is.blocks_free);
     }

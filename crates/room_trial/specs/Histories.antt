@@ -1,6 +1,8 @@
 -- The history of a trial.
-use Rattle.std.specs.Prelude.{◌≡◌, ℕ, ◌+◌, ◌<◌, List, [], length, map, take, slice_index_or, All, reverse}
+use Rattle.std.specs.Prelude.{◌≡◌, ℕ, ◌+◌, ◌/◌, ◌<◌, ◌≤◌, ◌⊎◌, List, [], length, map, take, slice_index_or, All, reverse}
 use Rattle.std.specs.List.{sum_by}
+use Rattle.bay_core.specs.declared.calls.Layout.{Layout}
+use Rattle.bay_core.specs.declared.calls.Layout.TheVariants.{Split, Paged}
 use Rattle.bay_core.specs.declared.calls.Entry.{Entry}
 use Rattle.bay_core.specs.declared.calls.Noted.{Noted}
 use Rattle.bay_core.specs.Contents.{Contents}
@@ -8,6 +10,8 @@ use Rattle.bay_core.specs.Noted.{after, entries}
 use Rattle.bay_core.specs.History.{IsHistory}
 use Rattle.bay_core.specs.Legal.{IsLegal, IsRoomed}
 use Rattle.bay_core.specs.Told.{of_caller, AreOwn}
+use Rattle.bay_rule.specs.Draws.{dones}
+use Rattle.bay_store.specs.Closing.{AreFree}
 use Rattle.room_script.specs.declared.trials.Line.{Line}
 use Rattle.room_script.specs.Trials.{Outline}
 use Rattle.room_trial.specs.Scripts.{asked, called, items_taken}
@@ -17,10 +21,19 @@ use Rattle.room_trial.specs.declared.crews.Played.{Played}
 abbrev pub script_of : Outline → ℕ → List Line
 script_of o caller = slice_index_or o.scripts caller []
 
--- the entries are of the first lines of a caller's script, in order, each once: of all for which the
--- caller had a draw
-abbrev pub AreAnswers : Outline → ℕ → List Entry → Type 0
-AreAnswers o caller es = map called es ≡ take o.draws (map asked (script_of o caller))
+-- So many lines may be those for which a caller had draws, where a trial has these entries: each took a
+-- draw, and where blocks change hands, two more may have overflowed, and one more for each 64 items
+-- that were stored.
+abbrev pub UsesDraws : Layout → ℕ → ℕ → List Entry → Type 0
+UsesDraws Split draws lines es = lines ≡ draws
+UsesDraws Paged draws lines es = draws ≤ lines + 2 + dones es / 64
+
+-- The entries `mine`, among all those of a trial, are of the first lines of a caller's script, in order,
+-- each once: of no more than it had draws for, and of all unless its draws were used.
+pub record AreAnswers (o : Outline) (es : List Entry) (caller : ℕ) (mine : List Entry) : Type 0 where
+  pub first : map called mine ≡ take (length mine) (map asked (script_of o caller))
+  pub drawn : length mine ≤ o.draws
+  pub whole : (length mine ≡ length (script_of o caller)) ⊎ UsesDraws o.layout o.draws (length mine) es
 
 -- The entries of a trial are one history, legal and roomed, which leaves s. It has each caller's
 -- answers, and nothing else.
@@ -28,7 +41,7 @@ pub record IsTrialHistory (o : Outline) (es : List Entry) (s : Contents) : Type 
   pub legal : IsLegal o.layout o.blocks es s
   pub roomed : IsRoomed es
   pub callers : All (λ e. e.who < length o.scripts) es
-  pub answers : (caller : ℕ) → caller < length o.scripts → AreAnswers o caller (of_caller caller es)
+  pub answers : (caller : ℕ) → caller < length o.scripts → AreAnswers o es caller (of_caller caller es)
 
 -- the lists of entries that callers brought back
 abbrev pub lists_of : Played → List (List Entry)
@@ -40,7 +53,7 @@ pub record AreOfOneBay (o : Outline) (lists : List (List Entry)) : Type 0 where
   pub legal : IsHistory o.layout o.blocks history
   pub own : AreOwn lists (reverse (entries history))
   pub many : length lists ≡ length o.scripts
-  pub answers : (caller : ℕ) → caller < length o.scripts → AreAnswers o caller (slice_index_or lists caller [])
+  pub answers : (caller : ℕ) → caller < length o.scripts → AreAnswers o (reverse (entries history)) caller (slice_index_or lists caller [])
 
 -- the shares of callers with these entries: the one of each at first, and that of each item taken
 abbrev pub shares_after : List (List Entry) → ℕ
@@ -54,14 +67,4 @@ pub record IsPlayed (o : Outline) (played : Played) : Type 0 where
   pub queue : played.closed.queue.items ≡ (after bay.history).queue
   pub live : played.closed.live
       ≡ length played.closed.stack.items + length played.closed.queue.items + shares_after (lists_of played)
-  pub blocks_free : played.closed.blocks_free ≡ 0
-
--- the entries are the callers' own in one legal and roomed history, which leaves s: the lists that the
--- bay closed with
-pub record IsMerged (o : Outline) (played : Played) (es : List Entry) : Type 0 where
-  pub left : Contents
-  pub legal : IsLegal o.layout o.blocks es left
-  pub roomed : IsRoomed es
-  pub own : AreOwn (lists_of played) es
-  pub stack : played.closed.stack.items ≡ left.stack
-  pub queue : played.closed.queue.items ≡ left.queue
+  pub blocks_free : AreFree o.layout o.blocks (after bay.history) played.closed.blocks_free

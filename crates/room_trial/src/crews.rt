@@ -1,5 +1,6 @@
 //! The callers of a trial, each in a thread of its own.
-ghost use Rattle.std.specs.Prelude.{◌≡◌, ℕ, ◌<◌, ◌≤◌, ◌^◌, length, map, vec_len, slice_index_or, Ok, IfOk};
+ghost use Rattle.std.specs.Prelude.{◌≡◌, ℕ, ◌<◌, ◌≤◌, length, map, vec_len, slice_index_or, Ok, IfOk};
+ghost use Rattle.bay_core.specs.declared.numbers.TheConstants.{MOST_CALLERS, MOST_DRAWS};
 ghost use Rattle.room_script.specs.Trials.{outline_of, IsBlocks};
 ghost use Rattle.room_gate.specs.Together.{EachGives};
 ghost use Rattle.room_trial.specs.Crews.{IsReady, EndsWell};
@@ -88,7 +89,10 @@ fn parted(alloc: Global, ends: Vec<CallerEnd>) -> Result<Parts, AllocError>
 /// asked with c and i, both counted from 0. It waits for the callers.
 ///
 /// The callers' lists of entries are their own in one legal history, which leaves the lists that the bay
-/// closed with. Each caller answered the first lines of its script, in order: all for which it had a draw.
+/// closed with. Each caller answered the first lines of its script, in order: all for which it had a
+/// draw. Where blocks change hands an answered line may take more draws than one: a caller with D draws
+/// that answered K lines, and not all, had them used, and K + 2 and one for each 64 items that all
+/// callers stored make at least D.
 ///
 /// # Errors
 ///
@@ -100,9 +104,9 @@ pub fn play<R: Threads + Wait + Sync, G: Gate + Sync>(
     trial: &Trial,
     gate: &G,
 ) -> Result<Played, AllocError>
-    requires blocks { IsBlocks trial.now.blocks }
-    requires draws { trial.now.draws ≤ 2 ^ 48 }
-    requires callers { vec_len trial.now.scripts ≤ 64 }
+    requires blocks { IsBlocks trial.now.layout trial.now.blocks }
+    requires draws { trial.now.draws ≤ MOST_DRAWS }
+    requires callers { vec_len trial.now.scripts ≤ MOST_CALLERS }
     ensures { IfOk result (λ played. IsPlayed (outline_of trial.now) played) }
 {
     let callers = trial.scripts.len() as u32;

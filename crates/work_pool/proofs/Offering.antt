@@ -136,7 +136,7 @@ module _ (leads : ℕ → ℕ → Type 0) (was mid : Standing) (item : ℕ) (g :
           runs = record {
             went = went_offer x before.caller now.caller (r.entry ∷ []) p.gains p.still d refl refl;
             few = drew_one x before.caller now.caller r.entry p.gains;
-            follows = (((p.adds.op_is, p.adds.arg, p.reply_is), may_first), tt);
+            follows = (((p.adds.call.op_is, p.adds.call.arg, p.reply_is), may_first), tt);
             given = ap (λ (s : Standing). s.given) by.0 ∙ given_more;
             done = ap (λ (s : Standing). s.done) by.0 ∙ (done_same ∙ sym (append-nil was.done));
             worker = worker;
@@ -162,7 +162,7 @@ module _ (leads : ℕ → ℕ → Type 0) (was mid : Standing) (item : ℕ) (g :
           runs = record {
             went = went_offer x before.caller now.caller (r.entry ∷ []) q.gains q.still d refl refl;
             few = omega (arith, q.gains.draws);
-            follows = (((q.adds.op_is, q.adds.arg, q.reply_is), may_first), tt);
+            follows = (((q.adds.call.op_is, q.adds.call.arg, q.reply_is), may_first), tt);
             given = ap (λ (s : Standing). s.given) keeps.same ∙ given_more;
             done = ap (λ (s : Standing). s.done) keeps.same ∙ (done_same ∙ sym (append-nil was.done));
             worker = worker;

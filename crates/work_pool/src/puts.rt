@@ -14,7 +14,8 @@ use std::sync::Wait;
 pub enum Put {
     /// The item is in the pool.
     Shared(Receipt),
-    /// The item, for which there was no cell: the list held 32 items for each block.
+    /// The item, for which there was no cell: the list held 32 items for each block, or, where blocks
+    /// change hands, all cells of its blocks were taken and no block was free.
     Full(u64),
     /// The item, for which the caller had no draw left.
     Spent(u64),

@@ -33,6 +33,5 @@ returns-in-Ok g c =
     let came = came_so made.bay.usage made.bay.site c.args.trial.now c.len-callers.result c.deref.result.now made.passes.items
     parts.field-0.passes.items ends.ends.items parts.field-0.entries.items c.deref.ensures.value many
     made.ensures.passes (omega (arith, ends.ensures.len, ok, ends_ok)) ends.ensures.each parts.ensures.passes parts.ensures.entries in
-    of_played _ _ _ _ _ _ parts.field-0.entries came c.in-Ok.closed
-    (subst (λ (n : ℕ × ℕ). IsClosed n.0 n.1 parts.field-0.passes.items c.in-Ok.closed)
-    (λ k. (made.ensures.usage.1 k, callers k)) c.in-Ok.ensures.closed)
+    of_played _ _ _ _ _ _ parts.field-0.entries came c.in-Ok.closed made.ensures.usage.0 made.ensures.usage.1
+    (subst (λ (n : ℕ). IsClosed made.bay.usage n parts.field-0.passes.items c.in-Ok.closed) callers c.in-Ok.ensures.closed)

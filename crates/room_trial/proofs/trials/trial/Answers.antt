@@ -7,6 +7,6 @@ pub returns : goal.returns
 returns g c =
     let o = outline_of c.args.trial.now in let played = c.in_ok-played in
     let scripts = c.args.trial.now.scripts.items in
-    trial_printed o played.played c.in_ok-history.history.items c.printed.result played.ensures.bay
+    trial_printed o played.played played.ensures c.in_ok-history.history.items c.printed.result
     (c.in_ok-history.ensures o played.ensures)
     (rw (c.deref.ensures.value, c.deref-2.ensures.value, ← length-map scripts (λ script. script.items)) at c.printed.ensures)
