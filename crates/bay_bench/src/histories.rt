@@ -1,7 +1,8 @@
 //! The history of a crew: printed, or checked.
 use bay_core::{Entry, Layout};
-use bay_crew::{Mix, Ran, crew};
+use bay_crew::{Mix, crew};
 use room_history::{check, merge, print_entries};
+use room_trial::Played;
 use std::alloc::Global;
 use std::io;
 use std::io::{ErrorKind, Print};
@@ -22,7 +23,7 @@ fn history<R: Threads + Wait + Sync>(
     alloc: Global,
     callers: u32,
     calls: u32,
-) -> io::Result<(Vec<Entry>, Ran)> {
+) -> io::Result<(Vec<Entry>, Played)> {
     if callers > 64 {
         return Err(not_whole());
     }

@@ -13,7 +13,7 @@ use std::time::{Clock, Instant};
 const BLOCKS: u32 = 64;
 
 /// Times 1, 2 and 4 threads, each of which puts `items` items and takes as many, one by one and in
-/// runs of 32, and writes a line for each to standard error. It waits for the threads.
+/// whole runs of 32, and writes a line for each to standard error. It waits for the threads.
 pub fn time_all<R: Threads + Wait + Sync + Clock + Eprint>(
     rt: &R,
     alloc: Global,
@@ -27,7 +27,8 @@ pub fn time_all<R: Threads + Wait + Sync + Clock + Eprint>(
     Ok(())
 }
 
-// Times the set-up and all calls, and writes the nanoseconds over the number of all calls.
+// Times the set-up and all calls, and writes the nanoseconds over the number of the calls made, or 0
+// where there were none.
 fn time<R: Threads + Wait + Sync + Clock + Eprint>(
     rt: &R,
     alloc: Global,
@@ -40,10 +41,9 @@ fn time<R: Threads + Wait + Sync + Clock + Eprint>(
     requires run { 1 ≤ run }
 {
     let start = Instant::now(rt)?;
-    timed(rt, alloc, BLOCKS, threads, items, run, mix)?;
+    let calls = timed(rt, alloc, BLOCKS, threads, items, run, mix)?;
     let taken = start.elapsed(rt)?.as_nanos();
-    let calls = u128::from(threads) * 2 * u128::from(items);
-    let each = taken.checked_div(calls).unwrap_or(0);
+    let each = taken.checked_div(u128::from(calls)).unwrap_or(0);
     let list = if mix == Mix::Stack { "stack" } else { "queue" };
     eprintln!(rt; "{list} threads {threads} run {run} ns_per_op {each}")
 }

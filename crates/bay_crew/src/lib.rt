@@ -1,13 +1,12 @@
-//! Callers of a bay, each in a thread of its own.
+//! Callers of a bay, each in a thread of its own, with calls that are made up by rule.
 #![tactic(auto)]
 
-mod calls;
 mod crews;
 mod mixes;
-mod shifts;
+mod scripts;
 mod timings;
 
-pub use crews::{Ran, crew};
+pub use crews::crew;
 pub use mixes::Mix;
 pub use timings::timed;
 

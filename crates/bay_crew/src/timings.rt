@@ -1,62 +1,69 @@
 //! Calls without entries, to be timed.
-ghost use Rattle.std.specs.Prelude.{◌≡◌, ℕ, ◌<◌, ◌≤◌, vec_len, slice_index_or};
-ghost use Rattle.bay_crew.specs.Crews.{SameCaller, IsReady};
+ghost use Rattle.std.specs.Prelude.{◌≡◌, ℕ, ◌<◌, ◌≤◌, ◌*◌, ◌^◌, All, vec_len, slice_index_or, IfOk};
+ghost use Rattle.std.specs.List.{sum_by};
+ghost use Rattle.bay_crew.specs.Timings.{CanCall, Repeats, calls_of};
 
-use crate::calls::call;
 use crate::crews::DRAWS;
-use crate::mixes::Mix;
-use bay_core::{Layout, Op};
+use crate::mixes::{Mix, is_on_stack, line};
+use bay_core::Layout;
 use bay_store::{Bay, BayPass};
+use room_trial::call_line;
 use std::alloc::{AllocError, Global};
 use std::sync::Wait;
 use std::thread;
 use std::thread::Threads;
 
-// Calls so many times with one operation, and the items 0, 1 and so on where it puts.
-fn repeat<R: Wait>(rt: &R, bay: &Bay, pass: BayPass, op: Op, times: u32) -> BayPass
-    requires { IsReady bay.now.site pass }
-    ensures { SameCaller pass result }
+// Calls so many times on one list, with the items 0, 1 and so on where it puts. It answers how many
+// calls were answered with an entry.
+fn repeat<R: Wait>(
+    rt: &R,
+    bay: &Bay,
+    pass: BayPass,
+    on_stack: bool,
+    puts: bool,
+    times: u32,
+) -> (BayPass, u64)
+    requires { CanCall bay.now.site times pass }
+    ensures { Repeats times pass result.0 result.1 }
 {
     let mut pass = pass;
+    let mut made = 0;
     for item in 0..times {
-        let (after, _) = call(rt, bay, pass, op, item as u64);
+        let (after, receipt) = call_line(rt, bay, pass, line(on_stack, puts, item as u64));
         pass = after;
+        if receipt.is_some() {
+            made += 1;
+        }
     }
-    pass
+    (pass, made)
 }
 
 // Puts `run` items on a list and takes as many off it.
-fn one_run<R: Wait>(rt: &R, bay: &Bay, pass: BayPass, on_stack: bool, run: u32) -> BayPass
-    requires { IsReady bay.now.site pass }
-    ensures { SameCaller pass result }
+fn one_run<R: Wait>(rt: &R, bay: &Bay, pass: BayPass, on_stack: bool, run: u32) -> (BayPass, u64)
+    requires { CanCall bay.now.site (2 * run) pass }
+    ensures { Repeats (2 * run) pass result.0 result.1 }
 {
-    let (put, take) = if on_stack {
-        (Op::Push, Op::Pop)
-    } else {
-        (Op::Enq, Op::Deq)
-    };
-    let full = repeat(rt, bay, pass, put, run);
-    repeat(rt, bay, full, take, run)
+    let (full, put) = repeat(rt, bay, pass, on_stack, true, run);
+    let (emptied, taken) = repeat(rt, bay, full, on_stack, false, run);
+    (emptied, put + taken)
 }
 
-// Makes so many runs.
-fn rounds<R: Wait>(rt: &R, bay: &Bay, pass: BayPass, rounds: u32, run: u32, mix: Mix) -> BayPass
-    requires { IsReady bay.now.site pass }
-    ensures { SameCaller pass result }
+// Makes so many runs, and answers how many calls were made.
+fn rounds<R: Wait>(rt: &R, bay: &Bay, pass: BayPass, rounds: u32, run: u32, mix: Mix) -> u64
+    requires { CanCall bay.now.site (rounds * (2 * run)) pass }
+    ensures { result ≡ rounds * (2 * run) }
 {
     let mut pass = pass;
+    let mut made = 0;
     for round in 0..rounds {
-        let on_stack = match mix {
-            Mix::Stack => true,
-            Mix::Queue => false,
-            Mix::Both => round % 2 == 0,
-        };
-        pass = one_run(rt, bay, pass, on_stack, run);
+        let (after, calls) = one_run(rt, bay, pass, is_on_stack(mix, round), run);
+        pass = after;
+        made += calls;
     }
-    pass
+    made
 }
 
-// Makes the runs of all callers, each in a thread.
+// Makes the runs of all callers, each in a thread, and answers how many calls each made.
 fn all_rounds<R: Threads + Wait + Sync>(
     rt: &R,
     bay: &Bay,
@@ -64,8 +71,10 @@ fn all_rounds<R: Threads + Wait + Sync>(
     times: u32,
     run: u32,
     mix: Mix,
-) -> Result<Vec<BayPass>, AllocError>
-    requires { (i : ℕ) (p : _) → i < vec_len passes → p ≡ slice_index_or passes.items i p → IsReady bay.now.site p }
+) -> Result<Vec<u64>, AllocError>
+    requires { (i : ℕ) (p : _) → i < vec_len passes → p ≡ slice_index_or passes.items i p → CanCall bay.now.site (times * (2 * run)) p }
+    ensures len { IfOk result (λ made. vec_len made ≡ vec_len passes) }
+    ensures each { IfOk result (λ made. All (λ calls. calls ≡ times * (2 * run)) made.items) }
 {
     thread::map_vec(
         rt,
@@ -74,10 +83,22 @@ fn all_rounds<R: Threads + Wait + Sync>(
     )
 }
 
-/// Sets up a bay of `blocks` blocks, 1 to 16384, and has `callers` callers, 1 to 64, call at the same
-/// time: each puts `run` items, 1 or more, and takes as many, until it put `items`, rounded down to
-/// whole runs. On both lists it takes turns run by run. No entries are kept, and no share is given
-/// back.
+// The sum of the numbers.
+fn total(numbers: &[u64]) -> u64
+    requires { sum_by (λ n. n) numbers.now < 2 ^ 64 }
+    ensures { result ≡ sum_by (λ n. n) numbers.now }
+{
+    let mut all = 0;
+    for i in 0..numbers.len() {
+        all += numbers[i];
+    }
+    all
+}
+
+/// Sets up a bay of `blocks` blocks, 1 to 16384, and has up to 64 callers call at the same time: each
+/// puts `run` items, 1 or more, and takes as many, until it put `items`, rounded down to whole runs.
+/// On both lists it takes turns run by run. No entries are kept, and no share is given back. It
+/// answers how many calls were made.
 ///
 /// The error is want of memory alone. It waits for the callers, each of which runs in a thread of its
 /// own where one can be made.
@@ -89,13 +110,14 @@ pub fn timed<R: Threads + Wait + Sync>(
     items: u32,
     run: u32,
     mix: Mix,
-) -> Result<(), AllocError>
+) -> Result<u64, AllocError>
     requires some_blocks { 1 ≤ blocks }
     requires few_blocks { blocks ≤ 16384 }
     requires few_callers { callers ≤ 64 }
     requires some_items { 1 ≤ run }
+    ensures { IfOk result (λ calls. calls ≡ callers * calls_of items run) }
 {
     let (bay, passes) = Bay::set_up(alloc, Layout::Split, blocks, callers, DRAWS)?;
-    all_rounds(rt, &bay, passes, items / run, run, mix)?;
-    Ok(())
+    let made = all_rounds(rt, &bay, passes, items / run, run, mix)?;
+    Ok(total(&made))
 }

@@ -40,7 +40,11 @@ entry_line e = front_words e ++ reply_end e.reply
 abbrev pub items_text : List ℕ → List ℕ
 items_text items = flat_map (λ item. codes " " ++ decimal item) items
 
--- the lines of the stack, its bottom first, and of the queue, its oldest first
+-- the lines of a stack, its bottom first, and of a queue, its oldest first
+abbrev pub lists_text : List ℕ → List ℕ → List ℕ
+lists_text stack queue =
+    codes "stack" ++ (items_text stack ++ (codes "\nqueue" ++ (items_text queue ++ codes "\n")))
+
+-- the lines of the lists of a bay
 abbrev pub state_text : Contents → List ℕ
-state_text s =
-    codes "stack" ++ (items_text s.stack ++ (codes "\nqueue" ++ (items_text s.queue ++ codes "\n")))
+state_text s = lists_text s.stack s.queue

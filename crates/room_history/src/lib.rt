@@ -8,7 +8,7 @@ mod printing;
 
 pub use checking::{CheckFault, check};
 pub use merging::{MergeFault, merge};
-pub use printing::{print_entries, print_state};
+pub use printing::{print_entries, print_lists, print_state};
 
 #[cfg(test)]
 mod tests;

@@ -1,7 +1,7 @@
 //! Entries and contents as text.
 ghost use Rattle.std.specs.Prelude.{◌≡◌, ◌++◌, OnOk, IfOk, string_bytes};
 ghost use Rattle.std.specs.List.{flat_map};
-ghost use Rattle.room_history.specs.Prints.{front_words, reply_end, entry_line, items_text, state_text};
+ghost use Rattle.room_history.specs.Prints.{front_words, reply_end, entry_line, items_text, lists_text, state_text};
 
 use bay_core::{Entry, Op, Reply, State};
 use std::alloc::{AllocError, Global};
@@ -66,11 +66,35 @@ fn print_reply(text: &mut String, reply: Reply) -> Result<(), AllocError>
 pub fn print_state(alloc: Global, state: &State) -> Result<Vec<u8>, AllocError>
     ensures { IfOk result (λ text. text.items ≡ state_text state.now) }
 {
+    let (oldest, newest) = state.queue().as_slices();
+    lines_of_lists(alloc, state.stack(), oldest, newest)
+}
+
+/// The lines of `print_state` for a stack with its bottom first and a queue with its oldest first. It
+/// takes memory from `alloc`.
+///
+/// # Errors
+///
+/// Want of memory alone.
+pub fn print_lists(alloc: Global, stack: &[u64], queue: &[u64]) -> Result<Vec<u8>, AllocError>
+    ensures { IfOk result (λ text. text.items ≡ lists_text stack.now queue.now) }
+{
+    lines_of_lists(alloc, stack, queue, &[])
+}
+
+// The lines of a stack and of a queue, whose items come in two pieces.
+fn lines_of_lists(
+    alloc: Global,
+    stack: &[u64],
+    oldest: &[u64],
+    newest: &[u64],
+) -> Result<Vec<u8>, AllocError>
+    ensures { IfOk result (λ text. text.items ≡ lists_text stack.now (oldest.now ++ newest.now)) }
+{
     let mut text = String::new(alloc);
     write!(text, "stack")?;
-    print_items(&mut text, state.stack())?;
+    print_items(&mut text, stack)?;
     write!(text, "\nqueue")?;
-    let (oldest, newest) = state.queue().as_slices();
     print_items(&mut text, oldest)?;
     print_items(&mut text, newest)?;
     writeln!(text)?;

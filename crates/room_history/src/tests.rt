@@ -1,4 +1,4 @@
-use crate::{CheckFault, MergeFault, check, merge, print_entries, print_state};
+use crate::{CheckFault, MergeFault, check, merge, print_entries, print_lists, print_state};
 use bay_core::{Entry, Layout, Op, Reply};
 use std::alloc::Global;
 use std::test::Fail;
@@ -138,6 +138,8 @@ fn each_call_and_reply_has_its_words(rt: HostRuntime) -> Result<(), Fail> {
         print_state(rt.alloc(), &state)?.as_slice(),
         text.as_slice()
     );
+    let lists = print_lists(rt.alloc(), &[18_446_744_073_709_551_615, 3], &[8, 9])?;
+    assert_eq!(rt; lists.as_slice(), text.as_slice());
     let full = [entry(1, TOP, Op::Push, 5, Reply::Full)];
     assert_eq!(rt;
         print_entries(rt.alloc(), &full)?.as_slice(),

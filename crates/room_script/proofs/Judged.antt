@@ -102,18 +102,18 @@ act_or_not line =
       ]
     ]
 
--- a number after a word, up to a limit
-pub limited_or_not : (word line : List ℕ) (most : ℕ) → most < 2 ^ 64 → ((n : ℕ) × ((1 ≤ n) × (n ≤ most)) × (line ≡ word ++ decimal n)) ⊎ ((n : ℕ) → ((1 ≤ n) × (n ≤ most)) × (line ≡ word ++ decimal n) → ⊥)
-limited_or_not word line most small =
+-- a number after a word, between limits
+pub limited_or_not : (word line : List ℕ) (least most : ℕ) → most < 2 ^ 64 → ((n : ℕ) × ((least ≤ n) × (n ≤ most)) × (line ≡ word ++ decimal n)) ⊎ ((n : ℕ) → ((least ≤ n) × (n ≤ most)) × (line ≡ word ++ decimal n) → ⊥)
+limited_or_not word line least most small =
     elim (after_or_not word line) [
       | inl found ↦ (
           let same : (n : ℕ) → n ≤ most → line ≡ word ++ decimal n → found.0 ≡ n = λ n few is. decimal_injective found.0 n found.1.fits (omega (arith, few)) (append_cancel_left word _ _ (sym found.1.digits ∙ is)) in
-          elim (cases_lt 0 found.0) [
-            | inl some ↦ elim (cases_lt most found.0) [
+          elim (cases_lt found.0 least) [
+            | inl none ↦ inr (λ n is. omega (arith, none, is.0.0, same n is.0.1 is.1))
+            | inr some ↦ elim (cases_lt most found.0) [
               | inl many ↦ inr (λ n is. omega (arith, many, is.0.1, same n is.0.1 is.1))
               | inr few ↦ inl (found.0, (some, few), found.1.digits)
             ]
-            | inr none ↦ inr (λ n is. omega (arith, none, is.0.0, same n is.0.1 is.1))
           ]
           )
       | inr never ↦ inr (λ n is. never n (record { fits = omega (arith, is.0.1); digits = is.1 }))
@@ -135,8 +135,8 @@ from_line lines rooms callers (suc fuel) i acts enough past front =
 pub either : (lines : List (List ℕ)) → IsSchedule lines ⊎ ((k : ℕ) × BreaksAt IsSchedule lines k)
 either lines =
     elim (same_or_not (get_or lines 0 []) (codes "schedule 1")) [
-      | inl title ↦ elim (limited_or_not (codes "rooms ") (get_or lines 1 []) 7 (omega arith)) [
-        | inl rooms ↦ elim (limited_or_not (codes "callers ") (get_or lines 2 []) 64 (omega arith)) [
+      | inl title ↦ elim (limited_or_not (codes "rooms ") (get_or lines 1 []) 1 7 (omega arith)) [
+        | inl rooms ↦ elim (limited_or_not (codes "callers ") (get_or lines 2 []) 1 64 (omega arith)) [
           | inl callers ↦ from_line lines rooms.0 callers.0 (length lines) 3 [] (omega arith) (omega arith) (head_spelled lines rooms.0 callers.0 title (rooms.1, rooms.2) (callers.1, callers.2))
           | inr never ↦ inr (3, callers_break lines rooms.0 title (rooms.1, rooms.2) never)
         ]

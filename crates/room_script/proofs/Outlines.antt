@@ -6,14 +6,14 @@ use Rattle.std.proofs.lemmas.Fmt.{decimal_injective}
 use Rattle.std.proofs.lemmas.List.{append_cancel_left, append-nil, take_more, take_all, length-append}
 use Rattle.std.proofs.lemmas.List.Elements.{All-get_or}
 use Rattle.bay_core.specs.declared.calls.Layout.{Layout}
-use Rattle.bay_core.specs.declared.calls.Layout.TheVariants.{Split}
+use Rattle.bay_core.specs.declared.calls.Layout.TheVariants.{Split, Paged}
 use Rattle.room_script.specs.declared.trials.Line.{Line}
 use Rattle.room_script.specs.Breaks.{BreaksAt}
 use Rattle.room_script.specs.Trials.{Outline, IsCall, caller_line, layout_line, blocks_line, draws_line, call_line, script_lines, outline_lines, IsNext, IsWrong, AreScripts, SpellsTrial, IsTrial}
 use Rattle.room_script.proofs.Calls.{IsCallLine}
 use Rattle.room_script.proofs.Fronts.{breaks_next}
 use Rattle.room_script.proofs.Scripts.{IsRow, each_row, begins, begun, begun_cons, begun_append, begun_scripts, lines_caller, lines_call, scripts_call, scripts_caller, scripts_same}
-use Rattle.room_script.proofs.TrialHeads.{outline, begun_at}
+use Rattle.room_script.proofs.TrialHeads.{outline, layout_same, begun_at}
 
 -- one line more
 grown : (lines : List (List ℕ)) (o p : Outline) (i : ℕ) (line : List ℕ) → SpellsTrial (take i lines) o → i < length lines → get_or lines i [] ≡ line → outline_lines p ≡ outline_lines o ++ line ∷ []
@@ -56,6 +56,7 @@ module _ (lines : List (List ℕ)) (l : Layout) (b d : ℕ) where
 
 layout_begins : (l : Layout) → begins (layout_line l) ≡ false
 layout_begins Split = refl
+layout_begins Paged = refl
 
 -- as many lines begin a script as there are scripts
 begun_outline : (o : Outline) → begun (outline_lines o) ≡ length o.scripts
@@ -106,8 +107,8 @@ next_breaks lines l b d i scripts s front past within wrong =
       | inr none ↦ (
           let at = begun_at lines i inside more in
           elim (row_at lines at.0 i at.1.scripts (omega arith) at.3) [
-            | inl caller ↦ none.0 (at.2 ∙ caller)
-            | inr call ↦ none.1 call.0 call.1.0 (at.2 ∙ call.1.1)
+            | inl caller ↦ none.0 (at.2 i (omega arith) ∙ caller)
+            | inr call ↦ none.1 call.0 call.1.0 (at.2 i (omega arith) ∙ call.1.1)
           ]
           )
     ])
@@ -117,15 +118,12 @@ next_breaks lines l b d i scripts s front past within wrong =
 pub trial_read : (lines : List (List ℕ)) (o : Outline) (i : ℕ) → length lines ≤ i → SpellsTrial (take i lines) o → SpellsTrial lines o
 trial_read lines o i past front = rw (take_all i lines past) at front
 
-layout_same : (l m : Layout) → layout_line l ≡ layout_line m → l ≡ m
-layout_same Split Split e = refl
-
 -- lines say one thing
 pub outline_same : (lines : List (List ℕ)) (o p : Outline) → SpellsTrial lines o → SpellsTrial lines p → o ≡ p
 outline_same lines o p first second =
     let e : outline_lines o ≡ outline_lines p = sym first.spelled ∙ second.spelled in
     let layout = layout_same o.layout p.layout (ap (λ ls. get_or ls 1 []) e) in
-    let blocks = decimal_injective o.blocks p.blocks (omega (arith, first.within.blocks)) (omega (arith, second.within.blocks)) (append_cancel_left (codes "blocks ") _ _ (ap (λ ls. get_or ls 2 []) e)) in
+    let blocks = decimal_injective o.blocks p.blocks (omega (arith, first.within.blocks.1)) (omega (arith, second.within.blocks.1)) (append_cancel_left (codes "blocks ") _ _ (ap (λ ls. get_or ls 2 []) e)) in
     let draws = decimal_injective o.draws p.draws (omega (arith, first.within.draws)) (omega (arith, second.within.draws)) (append_cancel_left (codes "draws ") _ _ (ap (λ ls. get_or ls 3 []) e)) in
     let scripts = scripts_same o.scripts p.scripts first.within.scripts.calls second.within.scripts.calls (ap (drop 4) e) in
     ap (λ l. outline l o.blocks o.draws o.scripts) layout

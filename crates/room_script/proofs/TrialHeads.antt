@@ -1,12 +1,12 @@
 -- The first five lines of a trial.
-use Rattle.std.proofs.Common.{◌≡◌, ◌≢◌, ℕ, ◌+◌, ◌<◌, ◌≤◌, inl, inr, List, [], ◌∷◌, ◌++◌, length, get_or, take, drop, ap, sym, refl, ◌∙◌, arith}
+use Rattle.std.proofs.Common.{◌≡◌, ◌≢◌, ℕ, ◌+◌, ◌<◌, ◌≤◌, inl, inr, List, [], ◌∷◌, ◌++◌, length, get_or, take, drop, ap, sym, refl, ◌∙◌, subst, arith}
 use Rattle.std.specs.Prelude.{codes, All}
 use Rattle.std.specs.List.{flat_map}
 use Rattle.std.proofs.lemmas.Bool.{cases_lt}
 use Rattle.std.proofs.lemmas.List.{length-take, length-append, get_or_append_left, get_or-take, get_or_past, take_more, take-append-drop}
 use Rattle.std.proofs.lemmas.List.Elements.{All-nil, All-cons}
 use Rattle.bay_core.specs.declared.calls.Layout.{Layout}
-use Rattle.bay_core.specs.declared.calls.Layout.TheVariants.{Split}
+use Rattle.bay_core.specs.declared.calls.Layout.TheVariants.{Split, Paged}
 use Rattle.room_script.specs.declared.trials.Line.{Line}
 use Rattle.room_script.specs.Breaks.{Begins, BreaksAt}
 use Rattle.room_script.specs.Trials.{Outline, IsBlocks, IsDraws, IsCall, layout_line, blocks_line, draws_line, caller_line, script_lines, outline_lines, AreScripts, IsWithin, SpellsTrial, IsTrial}
@@ -19,15 +19,16 @@ outline layout blocks draws scripts = record { layout = layout; blocks = blocks;
 abbrev pub idle : Layout → ℕ → ℕ → Outline
 idle layout blocks draws = outline layout blocks draws ([] ∷ [])
 
-idle_within : (layout : Layout) (blocks draws : ℕ) → IsBlocks blocks → IsDraws draws → IsWithin (idle layout blocks draws)
+idle_within : (layout : Layout) (blocks draws : ℕ) → IsBlocks layout blocks → IsDraws draws → IsWithin (idle layout blocks draws)
 idle_within layout blocks draws is_blocks is_draws = record {
   blocks = is_blocks;
   draws = is_draws;
   scripts = record { some = omega arith; few = omega arith; calls = All-cons (All IsCall) [] [] (All-nil IsCall) (All-nil (All IsCall)) };
 }
 
-one_block : IsBlocks 1
-one_block = (omega arith, omega arith)
+two_blocks : (layout : Layout) → IsBlocks layout 2
+two_blocks Split = (omega arith, omega arith)
+two_blocks Paged = (omega arith, omega arith)
 
 one_draw : IsDraws 1
 one_draw = (omega arith, omega arith)
@@ -44,15 +45,27 @@ long o within = omega (arith, (begins_so o.scripts within.scripts.some).0)
 fifth : (o : Outline) → IsWithin o → get_or (outline_lines o) 4 [] ≡ caller_line
 fifth o within = (begins_so o.scripts within.scripts.some).1
 
--- the line of some trial that stands where this one does
+-- two layouts have two lines
+pub layout_same : (l m : Layout) → layout_line l ≡ layout_line m → l ≡ m
+layout_same Split Split e = refl
+layout_same Paged Paged e = refl
+layout_same Split Paged e = absurd (omega (arith, ap (λ xs. get_or xs 7 0) e))
+layout_same Paged Split e = absurd (omega (arith, ap (λ xs. get_or xs 7 0) e))
+
+-- this line and those before it are the trial's
+abbrev pub AreLines : List (List ℕ) → Outline → ℕ → Type 0
+AreLines lines o i = (j : ℕ) → j ≤ i → get_or lines j [] ≡ get_or (outline_lines o) j []
+
+-- some trial has this line where it stands, and those before it
 pub begun_at : (lines : List (List ℕ)) (i : ℕ) → i < length lines → Begins IsTrial (take (i + 1) lines)
-    → (o : Outline) × IsWithin o × (get_or lines i [] ≡ get_or (outline_lines o) i []) × (i < length (outline_lines o))
+    → (o : Outline) × IsWithin o × AreLines lines o i × (i < length (outline_lines o))
 begun_at lines i within begins =
     let o = begins.1.0 in
     let spells = begins.1.1 in
     let inside : i < length (take (i + 1) lines) = omega (arith, length-take (i + 1) lines) in
-    let same : get_or (take (i + 1) lines ++ begins.0) i [] ≡ get_or lines i [] = get_or_append_left (take (i + 1) lines) begins.0 [] i inside ∙ get_or-take (i + 1) lines i [] (omega arith) in
-    (o, spells.within, sym same ∙ ap (λ xs. get_or xs i []) spells.spelled, omega (arith, inside, length-append (take (i + 1) lines) begins.0, ap length spells.spelled))
+    let same : (j : ℕ) → j ≤ i → get_or (take (i + 1) lines ++ begins.0) j [] ≡ get_or lines j [] =
+    λ j near. get_or_append_left (take (i + 1) lines) begins.0 [] j (omega (arith, near, inside)) ∙ get_or-take (i + 1) lines j [] (omega (arith, near)) in
+    (o, spells.within, (λ j near. sym (same j near) ∙ ap (λ xs. get_or xs j []) spells.spelled), omega (arith, inside, length-append (take (i + 1) lines) begins.0, ap length spells.spelled))
 
 -- the first n lines are those of the trial
 pub record Front (lines : List (List ℕ)) (o : Outline) (n : ℕ) : Type 0 where
@@ -75,7 +88,7 @@ front_more lines o n front there some at =
     ]
 
 -- the line after those is no trial's
-next_breaks : (lines : List (List ℕ)) (o : Outline) (n : ℕ) → Front lines o n → IsWithin o → n < 5 → ((p : Outline) → IsWithin p → get_or lines n [] ≡ get_or (outline_lines p) n [] → ⊥) → BreaksAt IsTrial lines (n + 1)
+next_breaks : (lines : List (List ℕ)) (o : Outline) (n : ℕ) → Front lines o n → IsWithin o → n < 5 → ((p : Outline) → IsWithin p → AreLines lines p n → ⊥) → BreaksAt IsTrial lines (n + 1)
 next_breaks lines o n front within early wrong =
     breaks_next IsTrial lines n front.enough
     (drop n (outline_lines o), (o, record { within = within; spelled = ap (λ xs. xs ++ drop n (outline_lines o)) front.same ∙ take-append-drop n (outline_lines o) }))
@@ -85,7 +98,7 @@ next_breaks lines o n front within early wrong =
 module _ (lines : List (List ℕ)) where
   pub title_wrong : get_or lines 0 [] ≢ codes "trial 1" → BreaksAt IsTrial lines 1
   title_wrong wrong =
-      next_breaks lines (idle Split 1 1) 0 (front_none lines (idle Split 1 1)) (idle_within Split 1 1 one_block one_draw) (omega arith) (λ p within e. wrong e)
+      next_breaks lines (idle Split 2 1) 0 (front_none lines (idle Split 2 1)) (idle_within Split 2 1 (two_blocks Split) one_draw) (omega arith) (λ p within e. wrong (e 0 (omega arith)))
 
   module _ (title : get_or lines 0 [] ≡ codes "trial 1") where
     front_one : (l : Layout) (b d : ℕ) → Front lines (idle l b d) 1
@@ -93,26 +106,29 @@ module _ (lines : List (List ℕ)) where
 
     pub layout_wrong : ((l : Layout) → get_or lines 1 [] ≡ layout_line l → ⊥) → BreaksAt IsTrial lines 2
     layout_wrong wrong =
-        next_breaks lines (idle Split 1 1) 1 (front_one Split 1 1) (idle_within Split 1 1 one_block one_draw) (omega arith) (λ p within e. wrong p.layout e)
+        next_breaks lines (idle Split 2 1) 1 (front_one Split 2 1) (idle_within Split 2 1 (two_blocks Split) one_draw) (omega arith) (λ p within e. wrong p.layout (e 1 (omega arith)))
 
     layout_some : (l : Layout) → 0 < length (layout_line l)
     layout_some Split = omega arith
+    layout_some Paged = omega arith
 
     module _ (l : Layout) (second : get_or lines 1 [] ≡ layout_line l) where
       front_two : (b d : ℕ) → Front lines (idle l b d) 2
       front_two b d = front_more lines (idle l b d) 1 (front_one l b d) (omega arith) (layout_some l) second
 
-      pub blocks_wrong : ((n : ℕ) → IsBlocks n × (get_or lines 2 [] ≡ blocks_line n) → ⊥) → BreaksAt IsTrial lines 3
+      pub blocks_wrong : ((n : ℕ) → IsBlocks l n × (get_or lines 2 [] ≡ blocks_line n) → ⊥) → BreaksAt IsTrial lines 3
       blocks_wrong wrong =
-          next_breaks lines (idle l 1 1) 2 (front_two 1 1) (idle_within l 1 1 one_block one_draw) (omega arith) (λ p within e. wrong p.blocks (within.blocks, e))
+          next_breaks lines (idle l 2 1) 2 (front_two 2 1) (idle_within l 2 1 (two_blocks l) one_draw) (omega arith) (λ p within e.
+          let same : p.layout ≡ l = layout_same p.layout l (sym (e 1 (omega arith)) ∙ second) in
+          wrong p.blocks (subst (λ m. IsBlocks m p.blocks) same within.blocks, e 2 (omega arith)))
 
-      module _ (b : ℕ) (third : IsBlocks b × (get_or lines 2 [] ≡ blocks_line b)) where
+      module _ (b : ℕ) (third : IsBlocks l b × (get_or lines 2 [] ≡ blocks_line b)) where
         front_three : (d : ℕ) → Front lines (idle l b d) 3
         front_three d = front_more lines (idle l b d) 2 (front_two b d) (omega arith) (omega arith) third.1
 
         pub draws_wrong : ((n : ℕ) → IsDraws n × (get_or lines 3 [] ≡ draws_line n) → ⊥) → BreaksAt IsTrial lines 4
         draws_wrong wrong =
-            next_breaks lines (idle l b 1) 3 (front_three 1) (idle_within l b 1 third.0 one_draw) (omega arith) (λ p within e. wrong p.draws (within.draws, e))
+            next_breaks lines (idle l b 1) 3 (front_three 1) (idle_within l b 1 third.0 one_draw) (omega arith) (λ p within e. wrong p.draws (within.draws, e 3 (omega arith)))
 
         module _ (d : ℕ) (fourth : IsDraws d × (get_or lines 3 [] ≡ draws_line d)) where
           front_four : Front lines (idle l b d) 4
@@ -120,7 +136,7 @@ module _ (lines : List (List ℕ)) where
 
           pub caller_wrong : get_or lines 4 [] ≢ caller_line → BreaksAt IsTrial lines 5
           caller_wrong wrong =
-              next_breaks lines (idle l b d) 4 front_four (idle_within l b d third.0 fourth.0) (omega arith) (λ p within e. wrong (e ∙ fifth p within))
+              next_breaks lines (idle l b d) 4 front_four (idle_within l b d third.0 fourth.0) (omega arith) (λ p within e. wrong (e 4 (omega arith) ∙ fifth p within))
 
           pub head_read : get_or lines 4 [] ≡ caller_line → SpellsTrial (take 5 lines) (idle l b d)
           head_read caller = record {

@@ -3,12 +3,12 @@ use Rattle.std.proofs.Common.{◌≡◌, ℕ, zero, suc, ◌+◌, ◌<◌, ◌�
 use Rattle.std.specs.Prelude.{codes}
 use Rattle.std.proofs.lemmas.Bool.{cases_lt}
 use Rattle.bay_core.specs.declared.calls.Layout.{Layout}
-use Rattle.bay_core.specs.declared.calls.Layout.TheVariants.{Split}
+use Rattle.bay_core.specs.declared.calls.Layout.TheVariants.{Split, Paged}
 use Rattle.room_script.specs.declared.trials.Line.{Line}
 use Rattle.room_script.specs.declared.trials.Line.TheVariants.{Push, Pop, Enq, Deq}
 use Rattle.room_script.specs.Breaks.{BreaksAt}
 use Rattle.room_script.specs.Numbers.{IsNumberAfter}
-use Rattle.room_script.specs.Trials.{caller_line, layout_line, IsNext, IsWrong, SpellsTrial, IsTrial}
+use Rattle.room_script.specs.Trials.{caller_line, layout_line, least_blocks, IsNext, IsWrong, SpellsTrial, IsTrial}
 use Rattle.room_script.proofs.Calls.{IsCallLine}
 use Rattle.room_script.proofs.Judged.{same_or_not, after_or_not, limited_or_not}
 use Rattle.room_script.proofs.TrialHeads.{outline, title_wrong, layout_wrong, blocks_wrong, draws_wrong, caller_wrong, head_read}
@@ -47,8 +47,16 @@ next_or_not scripts s line =
       ]
     ]
 
-no_layout : (line : List ℕ) → (line ≡ codes "layout split" → ⊥) → (l : Layout) → line ≡ layout_line l → ⊥
-no_layout line split Split is = split is
+no_layout : (line : List ℕ) → (line ≡ codes "layout split" → ⊥) → (line ≡ codes "layout paged" → ⊥) → (l : Layout) → line ≡ layout_line l → ⊥
+no_layout line split paged Split is = split is
+no_layout line split paged Paged is = paged is
+
+layout_or_not : (line : List ℕ) → ((l : Layout) × (line ≡ layout_line l)) ⊎ ((l : Layout) → line ≡ layout_line l → ⊥)
+layout_or_not line =
+    elim (same_or_not line (codes "layout split")) [
+      | inl split ↦ inl (Split, split)
+      | inr no_split ↦ elim (same_or_not line (codes "layout paged")) [ inl paged ↦ inl (Paged, paged) | inr no_paged ↦ inr (no_layout line no_split no_paged) ]
+    ]
 
 -- the lines from one on, where those before it are read
 from_line : (lines : List (List ℕ)) (l : Layout) (b d : ℕ) (fuel i : ℕ) (scripts : List (List Line)) (s : List Line) → length lines ≤ i + fuel → 5 ≤ i → SpellsTrial (take i lines) (outline l b d (scripts ++ s ∷ []))
@@ -67,16 +75,16 @@ pub either_trial : (lines : List (List ℕ)) → IsTrial lines ⊎ ((k : ℕ) ×
 either_trial lines =
     elim (same_or_not (get_or lines 0 []) (codes "trial 1")) [
       | inr other ↦ inr (1, title_wrong lines other)
-      | inl title ↦ elim (same_or_not (get_or lines 1 []) (codes "layout split")) [
-        | inr other ↦ inr (2, layout_wrong lines title (no_layout (get_or lines 1 []) other))
-        | inl split ↦ elim (limited_or_not (codes "blocks ") (get_or lines 2 []) 16384 (omega arith)) [
-          | inr never ↦ inr (3, blocks_wrong lines title Split split never)
-          | inl blocks ↦ elim (limited_or_not (codes "draws ") (get_or lines 3 []) (2 ^ 48) (omega arith)) [
-            | inr never ↦ inr (4, draws_wrong lines title Split split blocks.0 (blocks.1, blocks.2) never)
+      | inl title ↦ elim (layout_or_not (get_or lines 1 [])) [
+        | inr other ↦ inr (2, layout_wrong lines title other)
+        | inl layout ↦ elim (limited_or_not (codes "blocks ") (get_or lines 2 []) (least_blocks layout.0) 16384 (omega arith)) [
+          | inr never ↦ inr (3, blocks_wrong lines title layout.0 layout.1 never)
+          | inl blocks ↦ elim (limited_or_not (codes "draws ") (get_or lines 3 []) 1 (2 ^ 48) (omega arith)) [
+            | inr never ↦ inr (4, draws_wrong lines title layout.0 layout.1 blocks.0 (blocks.1, blocks.2) never)
             | inl draws ↦ elim (same_or_not (get_or lines 4 []) caller_line) [
-              | inr other ↦ inr (5, caller_wrong lines title Split split blocks.0 (blocks.1, blocks.2) draws.0 (draws.1, draws.2) other)
-              | inl caller ↦ from_line lines Split blocks.0 draws.0 (length lines) 5 [] [] (omega arith) (omega arith)
-                  (head_read lines title Split split blocks.0 (blocks.1, blocks.2) draws.0 (draws.1, draws.2) caller)
+              | inr other ↦ inr (5, caller_wrong lines title layout.0 layout.1 blocks.0 (blocks.1, blocks.2) draws.0 (draws.1, draws.2) other)
+              | inl caller ↦ from_line lines layout.0 blocks.0 draws.0 (length lines) 5 [] [] (omega arith) (omega arith)
+                  (head_read lines title layout.0 layout.1 blocks.0 (blocks.1, blocks.2) draws.0 (draws.1, draws.2) caller)
             ]
           ]
         ]

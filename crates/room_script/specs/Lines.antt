@@ -17,7 +17,8 @@ without_empty_end [] = []
 without_empty_end (part ∷ []) = if length part == 0 then [] else part ∷ []
 without_empty_end (part ∷ next ∷ more) = part ∷ without_empty_end (next ∷ more)
 
--- the lines of a text: it is cut at each newline, and what is empty at the end is no line
+-- the lines of a text: it is cut at each newline; a newline that ends the text begins no further line,
+-- and a text without bytes has none. An empty line before the last newline is a line.
 abbrev pub lines_of : List ℕ → List (List ℕ)
 lines_of text = without_empty_end (slice_split is_newline text)
 

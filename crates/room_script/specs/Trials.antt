@@ -2,7 +2,8 @@
 use Rattle.std.specs.Prelude.{◌≡◌, ◌≢◌, ℕ, ◌+◌, ◌≤◌, ◌<◌, ◌^◌, ◌⊎◌, List, [], ◌∷◌, ◌++◌, length, map, All, codes, decimal}
 use Rattle.std.specs.List.{flat_map}
 use Rattle.bay_core.specs.declared.calls.Layout.{Layout}
-use Rattle.bay_core.specs.declared.calls.Layout.TheVariants.{Split}
+use Rattle.bay_core.specs.declared.calls.Layout.TheVariants.{Split, Paged}
+use Rattle.bay_core.specs.declared.numbers.TheConstants.{MOST_BLOCKS, MOST_DRAWS}
 use Rattle.room_script.specs.declared.trials.Line.{Line}
 use Rattle.room_script.specs.declared.trials.Line.TheVariants.{Push, Pop, Enq, Deq}
 use Rattle.room_script.specs.declared.trials.Trial.{Trial}
@@ -23,6 +24,7 @@ outline_of t =
 -- the line of the layout
 abbrev pub layout_line : Layout → List ℕ
 layout_line Split = codes "layout split"
+layout_line Paged = codes "layout paged"
 
 -- the line of the number of blocks
 abbrev pub blocks_line : ℕ → List ℕ
@@ -53,13 +55,18 @@ outline_lines o =
     codes "trial 1" ∷ layout_line o.layout ∷ blocks_line o.blocks ∷ draws_line o.draws
     ∷ flat_map script_lines o.scripts
 
--- from 1 to 16384 blocks
-abbrev pub IsBlocks : ℕ → Type 0
-IsBlocks blocks = (1 ≤ blocks) × (blocks ≤ 16384)
+-- the least number of blocks: two lists that share their blocks need two
+abbrev pub least_blocks : Layout → ℕ
+least_blocks Split = 1
+least_blocks Paged = 2
+
+-- from as many up to 16384 blocks
+abbrev pub IsBlocks : Layout → ℕ → Type 0
+IsBlocks layout blocks = (least_blocks layout ≤ blocks) × (blocks ≤ MOST_BLOCKS)
 
 -- from 1 to 2^48 draws
 abbrev pub IsDraws : ℕ → Type 0
-IsDraws draws = (1 ≤ draws) × (draws ≤ 2 ^ 48)
+IsDraws draws = (1 ≤ draws) × (draws ≤ MOST_DRAWS)
 
 -- the item of a call fits 64 bits
 abbrev pub IsCall : Line → Type 0
@@ -90,7 +97,7 @@ IsWrong scripts line =
 
 -- what is said is within the limits
 pub record IsWithin (o : Outline) : Type 0 where
-  pub blocks : IsBlocks o.blocks
+  pub blocks : IsBlocks o.layout o.blocks
   pub draws : IsDraws o.draws
   pub scripts : AreScripts o.scripts
 

@@ -1,15 +1,11 @@
 ghost use Rattle.std.specs.Prelude.{◌≡◌, ℕ, ◌↔◌, Some, IsTrue, codes};
 ghost use Rattle.bay_core.specs.declared.calls.Layout.{Layout};
 ghost use Rattle.room_script.specs.declared.trials.Line.{Line};
-ghost use Rattle.room_script.specs.Trials.{IsBlocks, IsDraws, IsCall, layout_line, blocks_line, draws_line, caller_line, call_line};
+ghost use Rattle.room_script.specs.Trials.{least_blocks, IsBlocks, IsDraws, IsCall, layout_line, blocks_line, draws_line, caller_line, call_line};
 
 use crate::numbers::number_after;
 use crate::trials::Line;
-use bay_core::Layout;
-
-const MOST_BLOCKS: u64 = 16_384;
-
-const MOST_DRAWS: u64 = 281_474_976_710_656;
+use bay_core::{Layout, MOST_BLOCKS, MOST_DRAWS};
 
 /// Whether the line is the first one of a trial.
 pub fn is_trial_title(line: &[u8]) -> bool
@@ -23,18 +19,30 @@ pub fn read_layout(line: &[u8]) -> Option<Layout>
     ensures { (l : Layout) → (result ≡ Some l) ↔ (line.now ≡ layout_line l) }
 {
     if line == b"layout split".as_slice() {
-        Some(Layout::Split)
-    } else {
-        None
+        return Some(Layout::Split);
+    }
+    if line == b"layout paged".as_slice() {
+        return Some(Layout::Paged);
+    }
+    None
+}
+
+// The least number of blocks.
+fn least(layout: Layout) -> u64
+    ensures { result ≡ least_blocks layout }
+{
+    match layout {
+        Layout::Split => 1,
+        Layout::Paged => 2,
     }
 }
 
-/// The number of blocks, where the line gives one from 1 to 16384.
-pub fn read_blocks(line: &[u8]) -> Option<u32>
-    ensures { (n : ℕ) → (result ≡ Some n) ↔ (IsBlocks n × (line.now ≡ blocks_line n)) }
+/// The number of blocks, where the line gives one from 1 to 16384, or with `Paged` from 2 on.
+pub fn read_blocks(layout: Layout, line: &[u8]) -> Option<u32>
+    ensures { (n : ℕ) → (result ≡ Some n) ↔ (IsBlocks layout n × (line.now ≡ blocks_line n)) }
 {
     let blocks = number_after(b"blocks ", line)?;
-    if blocks == 0 || blocks > MOST_BLOCKS {
+    if blocks < least(layout) || blocks > MOST_BLOCKS as u64 {
         return None;
     }
     Some(blocks as u32)

@@ -30,7 +30,7 @@ pub enum Line {
 pub struct Trial {
     /// How the bay lays out its cells.
     pub layout: Layout,
-    /// The bay's number of blocks, from 1 to 16384.
+    /// The bay's number of blocks, from 1 to 16384, and at least 2 with `Paged`.
     pub blocks: u32,
     /// The draws that each caller may make, from 1 to 281474976710656.
     pub draws: u64,
@@ -57,7 +57,7 @@ fn read_trial_head(text: &[u8], lines: &[Piece]) -> Result<(Layout, u32, u64), S
     let Some(layout) = read_layout(line_at(text, lines, 1)) else {
         return Err(ScriptFault::Line(2));
     };
-    let Some(blocks) = read_blocks(line_at(text, lines, 2)) else {
+    let Some(blocks) = read_blocks(layout, line_at(text, lines, 2)) else {
         return Err(ScriptFault::Line(3));
     };
     let Some(draws) = read_draws(line_at(text, lines, 3)) else {
@@ -95,8 +95,8 @@ fn add_line(
     Ok(true)
 }
 
-/// Reads the text of a trial. Its lines are `trial 1`, `layout split`, `blocks B` with B from 1 to
-/// 16384, `draws D` with D from 1 to 281474976710656, and `caller`; then each is `caller`, `push X`,
+/// Reads the text of a trial. Its lines are `trial 1`, `layout split` or `layout paged`, `blocks B`
+/// with B from 1 to 16384, or from 2 on with `paged`, `draws D` with D from 1 to 281474976710656, and `caller`; then each is `caller`, `push X`,
 /// `pop`, `enq X` or `deq`, with any number X of 64 bits. Each `caller` begins the script of the
 /// next caller, of which there are at most 64, and the lines after it are that script. It takes
 /// memory from `alloc`.

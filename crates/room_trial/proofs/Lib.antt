@@ -1,4 +1,5 @@
 pub mod Receipts
+pub mod Counting
 pub mod Answering
 pub mod Together
 pub mod Texts

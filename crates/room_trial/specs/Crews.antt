@@ -2,6 +2,7 @@
 use Rattle.std.specs.Prelude.{◌≡◌, ℕ, ◌<◌, ◌≤◌, List, [], slice_index_or, IfOk}
 use Rattle.atomic_table.specs.Seated.{TableId}
 use Rattle.room_gate.specs.Shows.{Caller}
+use Rattle.bay_rule.specs.declared.bay_use.BayUse.{BayUse}
 use Rattle.bay_rule.specs.declared.views.BayView.{BayView}
 use Rattle.room_script.specs.declared.trials.Line.{Line}
 use Rattle.room_trial.specs.Callers.{Answers}
@@ -14,6 +15,6 @@ pub record IsReady (site : TableId) (callers : ℕ) (pass : Caller BayView) : Ty
   pub share : 1 ≤ pass.user.held
 
 -- a caller made the calls of its script among those of all, if it found memory
-abbrev pub EndsWell : List (List Line) → Caller BayView → CallerEnd → Type 0
-EndsWell scripts pass end =
-    IfOk end.entries (λ es. Answers (slice_index_or scripts pass.who []) pass end.pass es.items)
+abbrev pub EndsWell : BayUse → List (List Line) → Caller BayView → CallerEnd → Type 0
+EndsWell x scripts pass end =
+    IfOk end.entries (λ es. Answers x (slice_index_or scripts pass.who []) pass end.pass es.items)

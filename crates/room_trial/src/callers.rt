@@ -1,5 +1,5 @@
 //! One caller of a trial.
-ghost use Rattle.std.specs.Prelude.{◌≡◌, ◌≤◌, [], length, vec_capacity, IfOk, IfErr, IsOkAnd};
+ghost use Rattle.std.specs.Prelude.{◌≡◌, ◌-◌, ◌≤◌, [], length, min, vec_capacity, IfOk, IfErr, IsOkAnd};
 ghost use Rattle.room_trial.specs.Callers.{Answers};
 
 use crate::line_calls::call_line;
@@ -21,9 +21,9 @@ pub struct CallerEnd {
 
 /// Makes the calls of the lines in their order, with a pass of this bay that holds a share. Before
 /// line i, counted from 0, it asks the gate with the caller's number and i. It ends before the last
-/// line exactly where a call of the bay answers that the pass is spent: the pass has then made its
-/// last draw. It takes the memory for the entries first; where there is none, the pass is as it was.
-/// It waits for those that are let in before it.
+/// line only where a call of the bay answers that the pass is spent: the pass has then made its
+/// last draw. It takes the memory for the entries first; where there is none, the pass is as it was,
+/// and the gate was not asked. It waits for those that are let in before it.
 pub fn trial_caller<R: Wait, G: Gate>(
     rt: &R,
     alloc: Global,
@@ -34,10 +34,12 @@ pub fn trial_caller<R: Wait, G: Gate>(
 ) -> CallerEnd
     requires own { pass.site ≡ bay.now.site }
     requires share { 1 ≤ pass.user.held }
-    ensures answers { IfOk result.entries (λ es. Answers lines.now pass result.pass es.items) }
+    ensures answers { IfOk result.entries (λ es. Answers bay.now.usage lines.now pass result.pass es.items) }
     ensures wanting { IfErr result.entries (λ _. result.pass ≡ pass) }
 {
-    match Vec::with_capacity(alloc, lines.len()) {
+    let draws = pass.limit() - pass.draws();
+    let most = draws.min(lines.len() as u64);
+    match Vec::with_capacity(alloc, most as usize) {
         Ok(space) => answered(rt, bay, pass, lines, gate, space),
         Err(error) => CallerEnd {
             pass,
@@ -57,8 +59,9 @@ fn answered<R: Wait, G: Gate>(
 ) -> CallerEnd
     requires own { pass.site ≡ bay.now.site }
     requires share { 1 ≤ pass.user.held }
-    requires space { (space.items ≡ []) × (length lines.now ≤ vec_capacity space) }
-    ensures { IsOkAnd result.entries (λ es. Answers lines.now pass result.pass es.items) }
+    requires limited { pass.draws ≤ pass.limit }
+    requires space { (space.items ≡ []) × (min (pass.limit - pass.draws) (length lines.now) ≤ vec_capacity space) }
+    ensures { IsOkAnd result.entries (λ es. Answers bay.now.usage lines.now pass result.pass es.items) }
 {
     let who = pass.who();
     let mut pass = pass;

@@ -10,6 +10,7 @@ mod printing;
 mod trials;
 
 pub use callers::{CallerEnd, trial_caller};
+pub use crews::{Played, play};
 pub use line_calls::call_line;
 pub use trials::trial;
 

@@ -1,11 +1,14 @@
 //! The text of a trial.
-ghost use Rattle.std.specs.Prelude.{◌≡◌, ◌++◌, ℕ, [], length, map, slice_index_or, string_bytes, OnOk, IfOk};
+ghost use Rattle.std.specs.Prelude.{◌≡◌, ◌++◌, ℕ, [], length, vec_len, map, slice_index_or, string_bytes, OnOk, IfOk};
 ghost use Rattle.std.specs.List.{flat_map, range_with_len};
-ghost use Rattle.room_history.specs.Prints.{entry_line, state_text};
+ghost use Rattle.room_history.specs.Prints.{entry_line, lists_text};
 ghost use Rattle.room_trial.specs.Texts.{answered_line, answered_below};
+ghost use Rattle.room_trial.specs.Histories.{lists_of};
 
-use bay_core::{Entry, State};
-use room_history::{print_entries, print_state};
+use crate::crews::Played;
+use bay_core::Entry;
+use bay_store::Closed;
+use room_history::{print_entries, print_lists};
 use room_script::Line;
 use std::alloc::{AllocError, Global};
 use std::fmt::Write;
@@ -14,17 +17,18 @@ use std::fmt::Write;
 pub(crate) fn printed(
     alloc: Global,
     scripts: &[Vec<Line>],
-    lists: &[Vec<Entry>],
+    played: &Played,
     history: &[Entry],
-    left: &State,
 ) -> Result<Vec<u8>, AllocError>
-    requires { length lists.now ≡ length scripts.now }
+    requires { vec_len played.now.entries ≡ length scripts.now }
     ensures { IfOk result (λ text. text.items ≡ flat_map entry_line history.now
-        ++ (answered_below (map (λ list. list.items) lists.now) (map (λ script. script.items) scripts.now) (length scripts.now) ++ state_text left.now)) }
+        ++ (answered_below (lists_of played.now) (map (λ script. script.items) scripts.now) (length scripts.now)
+        ++ lists_text played.now.closed.stack.items played.now.closed.queue.items)) }
 {
     let mut text = print_entries(alloc, history)?;
-    text.extend_from_slice(&print_answered(alloc, scripts, lists)?)?;
-    text.extend_from_slice(&print_state(alloc, left)?)?;
+    text.extend_from_slice(&print_answered(alloc, scripts, &played.entries)?)?;
+    let Closed { stack, queue, .. } = &played.closed;
+    text.extend_from_slice(&print_lists(alloc, stack, queue)?)?;
     Ok(text)
 }
 

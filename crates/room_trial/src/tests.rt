@@ -1,8 +1,9 @@
 //! Whole trials, from their texts to what they print.
-use crate::trial;
+use crate::{play, trial};
 use room_script::read_trial;
+use std::sync::atomic::{AtomicU64, Ordering};
 use std::test::Fail;
-use work_pool::OpenGate;
+use work_pool::{Gate, OpenGate};
 
 #[test]
 fn a_trial_prints_its_history_and_what_is_left(rt: HostRuntime) -> Result<(), Fail> {
@@ -29,5 +30,54 @@ fn a_trial_prints_its_history_and_what_is_left(rt: HostRuntime) -> Result<(), Fa
         let printed = trial(&rt, rt.alloc(), &script, &OpenGate)?;
         assert_eq!(rt; printed.as_slice(), output.as_bytes());
     }
+    Ok(())
+}
+
+// A gate that follows the questions of two callers: the number of each one's next question, and how
+// many had another number.
+#[derive(Drop)]
+struct Follows {
+    first: AtomicU64,
+    second: AtomicU64,
+    others: AtomicU64,
+}
+
+impl Gate for Follows {
+    fn ask(&self, worker: u32, take: u64) {
+        let next = if worker == 0 {
+            &self.first
+        } else {
+            &self.second
+        };
+        if worker > 1 || next.fetch_add(1, Ordering::SeqCst) != take {
+            self.others.fetch_add(1, Ordering::SeqCst);
+        }
+    }
+}
+
+// The first caller has a draw for three of its four lines.
+const TWO_CALLERS: &str =
+    "trial 1\nlayout split\nblocks 1\ndraws 3\ncaller\npush 5\npush 6\npop\nenq 7\ncaller\nenq 8\nenq 9\n";
+
+#[test]
+fn each_caller_asks_with_one_number_after_another(rt: HostRuntime) -> Result<(), Fail> {
+    let gate = Follows {
+        first: AtomicU64::new(0),
+        second: AtomicU64::new(0),
+        others: AtomicU64::new(0),
+    };
+    let read = read_trial(rt.alloc(), TWO_CALLERS.as_bytes())?;
+    let played = play(&rt, rt.alloc(), &read, &gate)?;
+    let asked = (
+        gate.first.load(Ordering::SeqCst),
+        gate.second.load(Ordering::SeqCst),
+        gate.others.load(Ordering::SeqCst),
+    );
+    assert_eq!(rt; asked, (4, 2, 0));
+    assert_eq!(rt; played.entries.get(0).map(|list| list.len()), Some(3));
+    assert_eq!(rt; played.entries.get(1).map(|list| list.len()), Some(2));
+    assert_eq!(rt; played.closed.stack.len(), 1);
+    assert_eq!(rt; played.closed.queue.as_slice(), [8, 9].as_slice());
+    assert_eq!(rt; played.closed.live, 6);
     Ok(())
 }

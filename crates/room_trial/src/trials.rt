@@ -3,8 +3,8 @@ ghost use Rattle.std.specs.Prelude.{IfOk};
 ghost use Rattle.room_script.specs.Trials.{outline_of, IsWithin};
 ghost use Rattle.room_trial.specs.Texts.{IsTrialText};
 
-use crate::crews::entries_of_callers;
-use crate::histories::{merged, replayed};
+use crate::crews::play;
+use crate::histories::merged;
 use crate::printing::printed;
 use room_script::Trial;
 use std::alloc::{AllocError, Global};
@@ -12,15 +12,16 @@ use std::sync::Wait;
 use std::thread::Threads;
 use work_pool::Gate;
 
-/// Has the callers of a trial make the calls of their scripts on one bay, each in a thread of its own
-/// where one can be made, and prints what they did: a line for each entry of their one history, how
-/// many lines each caller had answered, and the two lists that are left.
+/// Has the callers of a trial make the calls of their scripts on one bay, as `play` does, and prints
+/// what they did: a line for each entry of their one history, how many lines each caller had answered,
+/// and the two lists that the bay closed with, which are those that the history leaves.
 ///
 /// The history is legal and roomed, and each caller's entries are those of its first lines, in
 /// order, each once: of all lines for which it had a draw. Before line i of caller c the gate is asked
 /// with c and i, both counted from 0.
 ///
-/// The error is want of memory alone; calls may have been made then. It waits for the callers.
+/// The error is want of memory alone; calls may have been made then, and the bay may be dropped and not
+/// closed. It waits for the callers.
 pub fn trial<R: Threads + Wait + Sync, G: Gate + Sync>(
     rt: &R,
     alloc: Global,
@@ -30,8 +31,7 @@ pub fn trial<R: Threads + Wait + Sync, G: Gate + Sync>(
     requires { IsWithin (outline_of trial.now) }
     ensures { IfOk result (λ text. IsTrialText (outline_of trial.now) text.items) }
 {
-    let lists = entries_of_callers(rt, alloc, trial, gate)?;
-    let history = merged(alloc, trial, &lists)?;
-    let left = replayed(alloc, trial.layout, trial.blocks, &history)?;
-    printed(alloc, &trial.scripts, &lists, &history, &left)
+    let played = play(rt, alloc, trial, gate)?;
+    let history = merged(alloc, &played)?;
+    printed(alloc, &trial.scripts, &played, &history)
 }

@@ -9,13 +9,13 @@ use Rattle.bay_core.specs.History.{IsHistory, own}
 use Rattle.bay_rule.specs.declared.bay_use.BayUse.{BayUse}
 use Rattle.bay_rule.specs.declared.views.BayView.{BayView}
 use Rattle.bay_rule.specs.Newest.{EmptySince}
-use Rattle.bay_store.specs.Calls.{Calls}
+use Rattle.bay_store.specs.Calls.{Calls, StaysOut}
 use Rattle.bay_store.specs.Quiet.{hearing, hearing_quiet, IsQuietFor}
 use Rattle.bay_store.specs.Sharing.{holding}
 use Rattle.bay_store.specs.declared.receipts.Receipt.{Receipt}
 use Rattle.bay_core.specs.Told.{told}
 use Rattle.bay_core.proofs.Telling.{told_more, told_same, goes_further}
-use Rattle.work_pool.specs.Gaining.{IsEmptied, EndsWith, Sees, SeesOn, Gains}
+use Rattle.work_pool.specs.Gaining.{IsEmptied, EndsWith, Sees, SeesOn, HearsNothing, Gains}
 
 -- what a caller has seen is what it had seen
 sees_same : (x : BayUse) (before now : Caller BayView) → now.who ≡ before.who
@@ -140,14 +140,76 @@ gains_quiet x a b es h q g =
       });
     }
 
+-- no load of `live`
+pub hears_none : (p : Caller BayView) → HearsNothing p p
+hears_none p = record { quiet_at = refl; loads = refl; bare_loads = refl; live = refl }
+
+pub hears_on : (a b c : Caller BayView) → HearsNothing a b → HearsNothing b c → HearsNothing a c
+hears_on a b c one two = record {
+  quiet_at = two.quiet_at ∙ one.quiet_at;
+  loads = two.loads ∙ one.loads;
+  bare_loads = two.bare_loads ∙ one.bare_loads;
+  live = two.live ∙ one.live;
+}
+
+-- nor does a call of the bay make one
+pub hears_call : (x : BayUse) (op : Op) (item : ℕ) (before now : Caller BayView) (r : Receipt)
+    → Calls x op item before now r → HearsNothing before now
+hears_call x op item before now r c = record {
+  quiet_at = ap (λ (p : Caller BayView). p.user.quiet_at) c.same;
+  loads = ap (λ (p : Caller BayView). p.user.loads) c.same;
+  bare_loads = ap (λ (p : Caller BayView). p.user.bare_loads) c.same;
+  live = ap (λ (p : Caller BayView). p.user.live) c.same;
+}
+
+-- a call for which no draw was left, at its start or after an overflow
+pub gains_out : (x : BayUse) (op : Op) (before now : Caller BayView) → before.user.mine ≡ own before.who before.user.seen
+    → StaysOut x op before now → Gains x before now []
+gains_out x op before now mine out =
+    let tries = out.tries in let seen = tries.adds.seen in
+    let drawn : now.draws ≡ before.draws + out.again = ap (λ (p : Caller BayView). p.draws) tries.same in
+    let most : now.limit ≡ before.limit = ap (λ (p : Caller BayView). p.limit) tries.same in
+    record {
+      site = ap (λ (p : Caller BayView). p.site) tries.same;
+      who = ap (λ (p : Caller BayView). p.who) tries.same;
+      limit = most;
+      draws = omega (arith, drawn);
+      limited = omega (arith, drawn, most, out.spent);
+      drawn = λ _. refl;
+      goes_on = ([], seen);
+      mine = tries.adds.mine ∙ (mine ∙ ap (own before.who) (sym seen));
+      gained = ap (told before.who) seen ∙ sym (append-nil (told before.who before.user.seen));
+      sees = inl (seen, ap (λ (p : Caller BayView). p.user.quiet_at) tries.same);
+    }
+
+pub out_of_draws : (x : BayUse) (op : Op) (before now : Caller BayView) → StaysOut x op before now
+    → now.draws ≡ now.limit
+out_of_draws x op before now out = omega (
+  arith,
+  out.spent,
+  ap (λ (p : Caller BayView). p.draws) out.tries.same,
+  ap (λ (p : Caller BayView). p.limit) out.tries.same,
+)
+
+pub hears_out : (x : BayUse) (op : Op) (before now : Caller BayView) → StaysOut x op before now
+    → HearsNothing before now
+hears_out x op before now out =
+    let same = out.tries.same in
+    record {
+      quiet_at = ap (λ (p : Caller BayView). p.user.quiet_at) same;
+      loads = ap (λ (p : Caller BayView). p.user.loads) same;
+      bare_loads = ap (λ (p : Caller BayView). p.user.bare_loads) same;
+      live = ap (λ (p : Caller BayView). p.user.live) same;
+    }
+
 -- one call of the bay
 module _ (x : BayUse) (op : Op) (item : ℕ) (before now : Caller BayView) (r : Receipt) (mine : before.user.mine ≡ own before.who before.user.seen) (c : Calls x op item before now r) where
-  its_own : c.adds.noted.who ≡ before.who
-  its_own = sym (ap (λ (e : Entry). e.who) c.adds.entry) ∙ c.adds.who
+  its_own : c.adds.call.noted.who ≡ before.who
+  its_own = sym (ap (λ (e : Entry). e.who) c.adds.call.entry) ∙ c.adds.call.who
 
   gained_one : told before.who now.user.seen ≡ told before.who before.user.seen ++ r.entry ∷ []
   gained_one =
-      let adds = c.adds in let n = adds.noted in let h = adds.history in
+      let adds = c.adds.call in let n = adds.noted in let h = adds.history in
       let grown : n ∷ before.user.mine ≡ own before.who (n ∷ h) =
       sym adds.mine ∙ (adds.all_mine ∙ ap (own before.who) adds.seen) in
       ap (told before.who) adds.seen
@@ -159,8 +221,8 @@ module _ (x : BayUse) (op : Op) (item : ℕ) (before now : Caller BayView) (r : 
 
   pub gains_call : Gains x before now (r.entry ∷ [])
   gains_call =
-      let adds = c.adds in
-      let drawn : now.draws ≡ before.draws + 1 = ap (λ (p : Caller BayView). p.draws) c.same in
+      let adds = c.adds.call in
+      let drawn : now.draws ≡ before.draws + c.again + 1 = ap (λ (p : Caller BayView). p.draws) c.same in
       let most : now.limit ≡ before.limit = ap (λ (p : Caller BayView). p.limit) c.same in
       record {
         site = ap (λ (p : Caller BayView). p.site) c.same;

@@ -33,16 +33,16 @@ module _ (x : BayUse) (before now : Caller BayView) (es : List Entry) (gains : G
   went_offer : (d : Deed) → es ≡ calls (d ∷ []) → length (missed (d ∷ [])) ≡ 0 → Went x before now (d ∷ [])
   went_offer d one none = record {
     gains = subst (λ l. Gains x before now l) one gains;
-    still = λ _. still.live;
-    loads = omega (arith, still.loads, none);
-    bare_loads = omega (arith, still.bare_loads, none);
+    still = λ _. still.hears.live;
+    loads = omega (arith, still.hears.loads, none);
+    bare_loads = omega (arith, still.hears.bare_loads, none);
   }
 
   loud_offer : Loud before now
   loud_offer = record {
-    loud = λ less. absurd (omega (arith, less, still.loads));
-    never = λ less. absurd (omega (arith, less, still.loads));
-    since = still.quiet_at;
+    loud = λ less. absurd (omega (arith, less, still.hears.loads));
+    never = λ less. absurd (omega (arith, less, still.hears.loads));
+    since = still.hears.quiet_at;
   }
 
 -- an entry took a draw
@@ -137,7 +137,7 @@ module _ (leads : ℕ → ℕ → Type 0) (was mid : Standing) (item : ℕ) (g :
           runs = record {
             went = went_offer x before.caller now.caller (r.entry ∷ []) p.gains p.still d refl refl;
             few = drew_one x before.caller now.caller r.entry p.gains;
-            follows = (((p.adds.op_is, p.adds.arg, p.reply_is), may_first), tt);
+            follows = (((p.adds.call.op_is, p.adds.call.arg, p.reply_is), may_first), tt);
             given = ap (λ (s : Standing). s.given) by.0 ∙ given_more;
             done = ap (λ (s : Standing). s.done) by.0 ∙ (done_same ∙ sym (append-nil was.done));
             worker = worker;
@@ -163,7 +163,7 @@ module _ (leads : ℕ → ℕ → Type 0) (was mid : Standing) (item : ℕ) (g :
           runs = record {
             went = went_offer x before.caller now.caller (r.entry ∷ []) q.gains q.still d refl refl;
             few = omega (arith, q.gains.draws);
-            follows = (((q.adds.op_is, q.adds.arg, q.reply_is), may_first), tt);
+            follows = (((q.adds.call.op_is, q.adds.call.arg, q.reply_is), may_first), tt);
             given = ap (λ (s : Standing). s.given) keeps.same ∙ given_more;
             done = ap (λ (s : Standing). s.done) keeps.same ∙ (done_same ∙ sym (append-nil was.done));
             worker = worker;

@@ -13,17 +13,14 @@ use Rattle.bay_store.specs.declared.receipts.Receipt.{Receipt}
 use Rattle.bay_store.specs.declared.receipts.Pushed.{Pushed}
 use Rattle.bay_store.specs.declared.receipts.Pushed.TheVariants as pushed
 use Rattle.work_pool.specs.Puts.{IsStill, PutsIn, PutsNone, Puts, answer_to}
-use Rattle.work_pool.proofs.Gaining.{gains_none, gains_call}
+use Rattle.work_pool.proofs.Gaining.{gains_out, gains_call, out_of_draws, hears_out, hears_call}
 
 module _ (x : BayUse) (op : Op) (item : ℕ) (before now : Caller BayView) (mine : before.user.mine ≡ own before.who before.user.seen) where
   still_after : (r : Receipt) → Calls x op item before now r
       → held_called r.entry.reply before.user.held ≡ before.user.held → IsStill before now
   still_after r c held = record {
     held = ap (λ (p : Caller BayView). p.user.held) c.same ∙ held;
-    quiet_at = ap (λ (p : Caller BayView). p.user.quiet_at) c.same;
-    loads = ap (λ (p : Caller BayView). p.user.loads) c.same;
-    bare_loads = ap (λ (p : Caller BayView). p.user.bare_loads) c.same;
-    live = ap (λ (p : Caller BayView). p.user.live) c.same;
+    hears = hears_call x op item before now r c;
   }
 
   puts_in : (r : Receipt) (reply : Reply) → Calls x op item before now r → r.entry.reply ≡ reply
@@ -36,15 +33,18 @@ module _ (x : BayUse) (op : Op) (item : ℕ) (before now : Caller BayView) (mine
     still = still_after r c (ap (λ y. held_called y before.user.held) is ∙ held);
   }
 
-  puts_none : before.draws ≤ before.limit → StaysOut before now → PutsNone x before now
-  puts_none limited out = subst (λ (p : Caller BayView). PutsNone x before p) (sym out.same) (record {
-    gains = gains_none x before mine limited;
-    spent = out.spent;
-    still = record { held = refl; quiet_at = refl; loads = refl; bare_loads = refl; live = refl };
-  })
+  puts_none : StaysOut x op before now → PutsNone x before now
+  puts_none out = record {
+    gains = gains_out x op before now mine out;
+    spent = out_of_draws x op before now out;
+    still = record {
+      held = ap (λ (p : Caller BayView). p.user.held) out.tries.same;
+      hears = hears_out x op before now out;
+    };
+  }
 
-  pub put_tells : before.draws ≤ before.limit → (p : Pushed) → PutGives x op item before now p
+  pub put_tells : (p : Pushed) → PutGives x op item before now p
       → Puts x op item before now (answer_to p item)
-  put_tells limited (pushed.Stored r) g = puts_in r replies.Done g.0 g.1 refl
-  put_tells limited (pushed.Full r) g = (refl, r, puts_in r replies.Full g.0 g.1 refl)
-  put_tells limited pushed.Spent g = (refl, puts_none limited g)
+  put_tells (pushed.Stored r) g = puts_in r replies.Done g.0 g.1 refl
+  put_tells (pushed.Full r) g = (refl, r, puts_in r replies.Full g.0 g.1 refl)
+  put_tells pushed.Spent g = (refl, puts_none g)

@@ -11,7 +11,7 @@ use Rattle.bay_core.specs.History.{own}
 use Rattle.bay_rule.specs.Leaving.{first_of}
 use Rattle.bay_rule.specs.declared.bay_use.BayUse.{BayUse}
 use Rattle.bay_rule.specs.declared.views.BayView.{BayView}
-use Rattle.bay_store.specs.Calls.{Adds, Calls, TakeGives}
+use Rattle.bay_store.specs.Calls.{Adds, Calls, StaysOut, TakeGives}
 use Rattle.bay_store.specs.Quiet.{hearing, hearing_quiet, IsQuietFor}
 use Rattle.bay_store.specs.Sharing.{holding}
 use Rattle.bay_store.specs.declared.receipts.Receipt.{Receipt}
@@ -21,7 +21,7 @@ use Rattle.work_pool.specs.Takes.{IsTry, Takes, Works}
 use Rattle.work_pool.specs.Tries.{Tries, questioned}
 use Rattle.work_pool.specs.declared.takes.Taken.TheVariants.{Item, Quiet, Spent}
 use Rattle.work_pool.specs.declared.tries.Tried.TheVariants as tried
-use Rattle.work_pool.proofs.Gaining.{gains_none, gains_more, gains_holding, gains_hearing, gains_quiet, gains_call}
+use Rattle.work_pool.proofs.Gaining.{gains_none, gains_more, gains_holding, gains_hearing, gains_quiet, gains_call, gains_out, out_of_draws, hears_out}
 
 -- the caller made tries that found nothing, and then more are to come
 pub record SoFar (x : BayUse) (op : Op) (before now : Caller BayView) (empties : List Entry) : Type 0 where
@@ -67,26 +67,7 @@ none_yet x op hand is few =
 -- a share given back leaves what a call added
 kept : (x : BayUse) (op : Op) (before now : Caller BayView) (r : Receipt) → Adds x op 0 before now r
     → Adds x op 0 before (holding now 1) r
-kept x op before now r a = record {
-  noted = a.noted;
-  history = a.history;
-  goes_on = a.goes_on;
-  seen = a.seen;
-  mine = a.mine;
-  all_mine = a.all_mine;
-  entry = a.entry;
-  who = a.who;
-  op_is = a.op_is;
-  arg = a.arg;
-  rank = a.rank;
-  frozen = a.frozen;
-  last = a.last;
-  lawful = a.lawful;
-  legal = a.legal;
-  first = a.first;
-  soon = a.soon;
-  since = a.since;
-}
+kept x op before now r a = record { call = a.call; first = a.first; soon = a.soon }
 
 -- one try more, by the bay's call and its receipt
 module _ (x : BayUse) (op : Op) (before now called : Caller BayView) (es : List Entry) (r : Receipt) (so_far : SoFar x op before now es) (c : Calls x op 0 now called r) where
@@ -113,7 +94,7 @@ module _ (x : BayUse) (op : Op) (before now called : Caller BayView) (es : List 
   all_empty : r.entry.reply ≡ replies.Empty → All (IsTry op replies.Empty) (es ++ r.entry ∷ [])
   all_empty is =
       All-append (IsTry op replies.Empty) es (r.entry ∷ []) so_far.empty
-      (All-cons (IsTry op replies.Empty) r.entry [] (c.adds.op_is, c.adds.arg, is) (All-nil _))
+      (All-cons (IsTry op replies.Empty) r.entry [] (c.adds.call.op_is, c.adds.call.arg, is) (All-nil _))
 
   -- the bay was not quiet after
   pub nothing_more : (live : ℕ) → r.entry.reply ≡ replies.Empty → live ≢ 0 → called.user.quiet_at ≡ None
@@ -159,7 +140,7 @@ module _ (x : BayUse) (op : Op) (before now called : Caller BayView) (es : List 
   pub item_then : (item : ℕ) → r.entry.reply ≡ replies.Item item → Takes x op before (holding called 1) es (Item item r)
   item_then item is = record {
     empty = so_far.empty;
-    says = ((c.adds.op_is, c.adds.arg, is), now, kept x op now called r c.adds);
+    says = ((c.adds.call.op_is, c.adds.call.arg, is), now, kept x op now called r c.adds);
     gains = gains_holding x before called (es ++ r.entry ∷ []) 1 gains_then;
     quiet = (λ never. absurd cc, λ both. absurd (so_far.loud (omega (arith, both.0, loads_same, so_far.loads)) (sym live_same ∙ both.1)));
     never = λ less loud. so_far.never (omega (arith, less, loads_same, so_far.loads));
@@ -171,20 +152,24 @@ module _ (x : BayUse) (op : Op) (before now called : Caller BayView) (es : List 
   }
 
 -- the pass was spent
-spent_then : (x : BayUse) (op : Op) (before now : Caller BayView) (es : List Entry) → SoFar x op before now es → now.draws ≡ now.limit
-    → Takes x op before (holding now 0) es Spent
-spent_then x op before now es so_far last = record {
-  empty = so_far.empty;
-  says = last;
-  gains = subst (λ l. Gains x before (holding now 0) l) (sym (append-nil es)) (gains_holding x before now es 0 so_far.gains);
-  quiet = (λ never. absurd cc, λ both. absurd (so_far.loud both.0 both.1));
-  never = λ less loud. so_far.never less;
-  still = so_far.still;
-  loads = so_far.loads;
-  bare_loads = so_far.bare_loads;
-  since = so_far.since;
-  held = refl;
-}
+spent_then : (x : BayUse) (op : Op) (before now called : Caller BayView) (es : List Entry) → SoFar x op before now es
+    → StaysOut x op now called → Takes x op before (holding called 0) es Spent
+spent_then x op before now called es so_far out =
+    let hears = hears_out x op now called out in
+    let mine = so_far.gains.mine ∙ ap (λ w. own w now.user.seen) (sym so_far.gains.who) in
+    record {
+      empty = so_far.empty;
+      says = out_of_draws x op now called out;
+      gains = gains_holding x before called (es ++ []) 0
+          (gains_more x before now called es [] so_far.gains (gains_out x op now called mine out));
+      quiet = (λ never. absurd cc, λ both. absurd (so_far.loud (omega (arith, both.0, hears.loads)) (sym hears.live ∙ both.1)));
+      never = λ less loud. so_far.never (omega (arith, less, hears.loads));
+      still = λ none. hears.live ∙ so_far.still none;
+      loads = hears.loads ∙ so_far.loads;
+      bare_loads = hears.bare_loads ∙ so_far.bare_loads;
+      since = hears.quiet_at ∙ so_far.since;
+      held = refl;
+    }
 
 asked_more : (now before n m : ℕ) → m ≡ n + 1
     → min (now + 1) (2 ^ 64 - 1) ≡ min (before + n + 1) (2 ^ 64 - 1)
@@ -226,11 +211,10 @@ module _ (x : BayUse) (op : Op) (before now then : Worker) (so_far : WorksSoFar 
       → then ≡ questioned now then.caller → Works x op before then Spent
   found_spent t same =
       let out = subst (TakeGives x op now.caller t.called) t.settles.0 t.call in
-      let is : then.caller ≡ holding now.caller 0 = t.settles.1 ∙ ap (λ (p : Caller BayView). holding p 0) out.same in
-      let whole : then ≡ questioned now (holding now.caller 0) = same ∙ ap (questioned now) is in
+      let whole : then ≡ questioned now (holding t.called 0) = same ∙ ap (questioned now) t.settles.1 in
       subst (λ (w : Worker). Works x op before w Spent) (sym whole) (record {
         empties = so_far.empties;
-        takes = spent_then x op before.caller now.caller so_far.empties so_far.tries out.spent;
+        takes = spent_then x op before.caller now.caller t.called so_far.empties so_far.tries out;
         asked = so_far.asked;
         same = so_far.same;
       })

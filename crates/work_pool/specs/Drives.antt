@@ -59,8 +59,9 @@ pub record Went (x : BayUse) (before now : Caller BayView) (run : List Deed) : T
   pub loads : now.user.loads ≡ before.user.loads + length (missed run)
   pub bare_loads : now.user.bare_loads ≡ before.user.bare_loads + length (missed run)
 
--- The bay was not quiet in the run: where the caller loaded `live` in it, the last load gave more
--- than 0, and it had never found the bay quiet.
+-- The caller did not find the bay quiet in the run: where it loaded `live` in it, the last load gave more
+-- than 0, and it had never found the bay quiet before. Where it made no load, this says nothing of the
+-- bay.
 pub record Loud (before now : Caller BayView) : Type 0 where
   pub loud : before.user.loads < now.user.loads → now.user.live ≢ 0
   pub never : before.user.loads < now.user.loads → before.user.quiet_at ≡ None

@@ -39,6 +39,13 @@ pub record KnowsQuiet (x : BayUse) (caller : Caller BayView) : Type 0 where
   pub since : IfSome caller.user.quiet_at (λ k. EmptySince k caller.user.seen)
   pub no_share : caller.user.held ≡ 0
 
+-- the caller has made no load of `live`
+pub record HearsNothing (before now : Caller BayView) : Type 0 where
+  pub quiet_at : now.user.quiet_at ≡ before.user.quiet_at
+  pub loads : now.user.loads ≡ before.user.loads
+  pub bare_loads : now.user.bare_loads ≡ before.user.bare_loads
+  pub live : now.user.live ≡ before.user.live
+
 -- Calls with these entries, by their caller before and now, but for its shares and what it heard of
 -- `live`.
 pub record Gains (x : BayUse) (before now : Caller BayView) (entries : List Entry) : Type 0 where

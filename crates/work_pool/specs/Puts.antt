@@ -10,17 +10,14 @@ use Rattle.bay_store.specs.Calls.{Adds}
 use Rattle.bay_store.specs.declared.receipts.Receipt.{Receipt}
 use Rattle.bay_store.specs.declared.receipts.Pushed.{Pushed}
 use Rattle.bay_store.specs.declared.receipts.Pushed.TheVariants as pushed
-use Rattle.work_pool.specs.Gaining.{Gains}
+use Rattle.work_pool.specs.Gaining.{Gains, HearsNothing}
 use Rattle.work_pool.specs.declared.puts.Put.{Put}
 use Rattle.work_pool.specs.declared.puts.Put.TheVariants.{Shared, Full, Spent}
 
 -- the caller holds as many shares as before, and has heard nothing more of `live`
 pub record IsStill (before now : Caller BayView) : Type 0 where
   pub held : now.user.held ≡ before.user.held
-  pub quiet_at : now.user.quiet_at ≡ before.user.quiet_at
-  pub loads : now.user.loads ≡ before.user.loads
-  pub bare_loads : now.user.bare_loads ≡ before.user.bare_loads
-  pub live : now.user.live ≡ before.user.live
+  pub hears : HearsNothing before now
 
 -- a put with an entry: the receipt is that of the bay's call with this item, which was answered so
 pub record PutsIn (x : BayUse) (op : Op) (item : ℕ) (reply : Reply) (before now : Caller BayView)

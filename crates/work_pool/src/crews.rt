@@ -6,7 +6,7 @@ use bay_core::Layout;
 pub struct Crew {
     /// How many workers there are, 1 to 16.
     pub workers: u32,
-    /// How many blocks the bay has, 1 to 16384.
+    /// How many blocks the bay has, 1 to 16384, and at least 2 where they change hands.
     pub blocks: u32,
     /// How the bay's cells are laid out.
     pub layout: Layout,

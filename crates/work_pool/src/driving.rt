@@ -36,6 +36,7 @@ pub fn drive<R: Wait, W: Work, G: Gate>(
     ensures leads { (y : ℕ) (x : ℕ) → W.leads work.new y x ↔ W.leads work.old y x }
     ensures made { W.made work.new ≡ W.made work.old }
 {
+    // What holds of each hand, which a proof sees by this call alone.
     let _who = hand.who();
     let mut hand = hand;
     let mut drive = Drive {

@@ -28,6 +28,7 @@ pub(crate) fn offer_all<R: Wait, W: Work>(
     ensures leads { (y : ℕ) (x : ℕ) → W.leads work.new y x ↔ W.leads work.old y x }
     ensures made { W.made work.new ≡ W.made work.old }
 {
+    // What holds of each hand, which a proof sees by this call alone.
     let _who = hand.who();
     let mut hand = hand;
     let mut drive = drive;
@@ -59,6 +60,7 @@ fn offer_next<R: Wait, W: Work>(
     ensures leads { (y : ℕ) (x : ℕ) → W.leads work.new y x ↔ W.leads work.old y x }
     ensures made { W.made work.new ≡ W.made work.old }
 {
+    // What holds of each hand, which a proof sees by this call alone.
     let _who = hand.who();
     match work.give() {
         Some(item) => {

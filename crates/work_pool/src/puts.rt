@@ -14,7 +14,8 @@ use std::sync::Wait;
 pub enum Put {
     /// The item is in the pool.
     Shared(Receipt),
-    /// The item, for which there was no cell: the list held 32 items for each block.
+    /// The item, for which there was no cell: the list held 32 items for each block, or, where blocks
+    /// change hands, all cells of its blocks were taken and no block was free.
     Full(u64),
     /// The item, for which the caller had no draw left.
     Spent(u64),
@@ -33,7 +34,7 @@ impl<'a> Pool<'a> {
         ensures same_bay { result.0.caller.site ≡ hand.caller.site }
         ensures held { result.0.caller.user.held ≡ hand.caller.user.held }
     {
-        // What it has seen of its own calls before.
+        // What holds of each hand, which a proof sees by this call alone.
         let _who = hand.who();
         let Hand {
             pass,

@@ -41,6 +41,7 @@ pub(crate) fn next_step<R: Wait, W: Work, G: Gate>(
     ensures leads { (y : ℕ) (x : ℕ) → W.leads work.new y x ↔ W.leads work.old y x }
     ensures made { W.made work.new ≡ W.made work.old }
 {
+    // What holds of each hand, which a proof sees by this call alone.
     let _who = hand.who();
     match work.kept() {
         Some(item) => handle_one(pool, hand, work, item),
@@ -65,6 +66,7 @@ fn take_one<R: Wait, W: Work, G: Gate>(
     ensures leads { (y : ℕ) (x : ℕ) → W.leads work.new y x ↔ W.leads work.old y x }
     ensures made { W.made work.new ≡ W.made work.old }
 {
+    // What holds of each hand, which a proof sees by this call alone.
     let _who = hand.who();
     let (hand, taken) = pool.take(rt, hand, gate);
     match taken {

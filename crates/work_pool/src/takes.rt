@@ -36,7 +36,7 @@ impl<'a> Pool<'a> {
         ensures same_bay { result.0.caller.site ≡ hand.caller.site }
         ensures few { result.0.caller.user.held ≤ 1 }
     {
-        // What it has seen of its own calls before the first try.
+        // What holds of each hand, which a proof sees by this call alone.
         let _who = hand.who();
         let mut hand = hand;
         for _ in rt.forever() {

@@ -10,5 +10,5 @@ pub returns-clause-gives : goal.returns-clause-gives
 returns-clause-gives g c =
     let is = c.who-who.ensures.holds in
     rw (c.answer.ensures)
-    (put_tells c.args.self.now.usage (puts c.args.self.now.way) c.args.item c.args.hand.caller c.call_in-pass.result.0 is.mine is.limited c.call_in-pass.result.1
+    (put_tells c.args.self.now.usage (puts c.args.self.now.way) c.args.item c.args.hand.caller c.call_in-pass.result.0 is.mine c.call_in-pass.result.1
     (rw (sym c.hand.view_is) c.call_in-pass.ensures.gives))
