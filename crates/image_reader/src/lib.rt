@@ -19,4 +19,6 @@ pub use read::read_image;
 pub use write::write_image;
 
 #[cfg(test)]
+mod fault_tests;
+#[cfg(test)]
 mod tests;
