@@ -1,5 +1,4 @@
 -- What a caller's own calls tell, as the history that it has seen goes on.
-use Rattle.std.specs.Prelude.{All}
 use Rattle.std.specs.List.{AllByRecursion}
 use mathlib.Core.List.{reverse_aux}
 use Rattle.std.proofs.Common.{◌≡◌, ◌≢◌, ℕ, ◌<◌, ◌≤◌, inl, inr, cond, List, [], ◌∷◌, ◌++◌, length, reverse, eqb, eq-eqb, refl, sym, ap, ◌∙◌, arith}

@@ -1,5 +1,5 @@
 -- No count among the words of a bay is large.
-use Rattle.std.proofs.Common.{◌≡◌, ℕ, zero, suc, ◌+◌, ◌*◌, ◌^◌, ◌<◌, ◌≤◌, List, length, get_or, arith}
+use Rattle.std.proofs.Common.{ℕ, zero, suc, ◌+◌, ◌^◌, ◌<◌, ◌≤◌, List, length, get_or, arith}
 use Rattle.room_core.specs.Gate.{Gate, Shut, Held, Keyed}
 use Rattle.bay_core.specs.declared.calls.Layout.{Layout}
 use Rattle.bay_core.specs.declared.calls.Layout.TheVariants.{Split, Paged}
