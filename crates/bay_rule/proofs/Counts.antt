@@ -58,8 +58,13 @@ module _ (x : BayUse) (h : List Noted) (words : List ℕ) (views : List BayView)
   counts_at (suc zero) l = omega (arith, ends.0, few_came x h words views g k)
   counts_at (suc (suc zero)) l = omega (arith, ends.1, few_came x h words views g k)
   counts_at (suc (suc (suc zero))) l =
-      omega (arith, k.live, shares_few views (λ d. (k.each d).held), k.few,
-      few_items x.layout x.blocks (after h) k.small (IsHistory-fits x.layout x.blocks h k.legal))
+      omega (
+        arith,
+        k.live,
+        shares_few views (λ d. (k.each d).held),
+        k.few,
+        few_items x.layout x.blocks (after h) k.small (IsHistory-fits x.layout x.blocks h k.legal),
+      )
   counts_at (suc (suc (suc (suc word)))) l =
       blocks_few x.layout x.blocks word k.small k.accounts (omega (arith, l, counts_most x.layout)) l
 
