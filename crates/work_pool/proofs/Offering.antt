@@ -9,6 +9,7 @@ use Rattle.std.proofs.lemmas.List.Elements.{All-weaker, All-contains_itself, Con
 use Rattle.room_gate.specs.Shows.{Caller}
 use Rattle.bay_core.specs.declared.calls.Op.{Op}
 use Rattle.bay_core.specs.declared.calls.Entry.{Entry}
+use Rattle.bay_core.specs.Times.{times}
 use Rattle.bay_rule.specs.declared.bay_use.BayUse.{BayUse}
 use Rattle.bay_rule.specs.declared.views.BayView.{BayView}
 use Rattle.work_pool.specs.Shows.{Worker, IsHand}
@@ -16,7 +17,7 @@ use Rattle.work_pool.specs.Standing.{Standing, Gives, Keeps}
 use Rattle.work_pool.specs.Ways.{puts}
 use Rattle.work_pool.specs.Gaining.{Gains}
 use Rattle.work_pool.specs.Puts.{IsStill, Puts}
-use Rattle.work_pool.specs.Deeds.{calls, missed, tried, stored, times}
+use Rattle.work_pool.specs.Deeds.{calls, missed, tried, stored}
 use Rattle.work_pool.specs.Drives.{MayOffer, Went, Loud}
 use Rattle.work_pool.specs.Running.{Asks, Stock, Goes, Tallies, PutsBy, OffersOne, OffersAll}
 use Rattle.work_pool.specs.declared.pools.Way.{Way}

@@ -10,10 +10,11 @@ use Rattle.room_gate.specs.Shows.{Caller}
 use Rattle.bay_rule.specs.declared.bay_use.BayUse.{BayUse}
 use Rattle.bay_rule.specs.declared.views.BayView.{BayView}
 use Rattle.bay_store.specs.Sharing.{holding}
+use Rattle.bay_core.specs.Times.{times}
 use Rattle.work_pool.specs.Shows.{Worker, IsHand}
 use Rattle.work_pool.specs.Standing.{Standing}
 use Rattle.work_pool.specs.Gaining.{Gains}
-use Rattle.work_pool.specs.Deeds.{handle_of, gain_of, call_of, miss_of, try_of, offer_of, store_of, keep_of, calls, missed, tried, offered, stored, put_by, gained, handled, times}
+use Rattle.work_pool.specs.Deeds.{handle_of, gain_of, call_of, miss_of, try_of, offer_of, store_of, keep_of, calls, missed, tried, offered, stored, put_by, gained, handled}
 use Rattle.work_pool.specs.Drives.{MayOffer, MayHandle, MayFollow, Went, Loud}
 use Rattle.work_pool.specs.Running.{EachFollows, Runs, Asks, Stock, Goes, Tallies}
 use Rattle.work_pool.specs.declared.pools.Way.{Way}

@@ -12,6 +12,7 @@ use Rattle.bay_core.specs.declared.calls.Entry.{Entry}
 use Rattle.bay_rule.specs.declared.bay_use.BayUse.{BayUse}
 use Rattle.bay_rule.specs.declared.views.BayView.{BayView}
 use Rattle.bay_core.specs.History.{own}
+use Rattle.bay_core.specs.Times.{times}
 use Rattle.bay_store.specs.Sharing.{holding}
 use Rattle.bay_store.specs.declared.receipts.Receipt.{Receipt}
 use Rattle.work_pool.specs.Shows.{Worker, IsHand}
@@ -19,7 +20,7 @@ use Rattle.work_pool.specs.Standing.{Standing, Handles, Unkeeps, Lacks}
 use Rattle.work_pool.specs.Ways.{takes}
 use Rattle.work_pool.specs.Gaining.{Gains}
 use Rattle.work_pool.specs.Takes.{IsTry, Takes, Works, item_entry}
-use Rattle.work_pool.specs.Deeds.{call_of, miss_of, try_of, offer_of, store_of, keep_of, gain_of, handle_of, calls, missed, tried, stored, put_by, gained, times}
+use Rattle.work_pool.specs.Deeds.{call_of, miss_of, try_of, offer_of, store_of, keep_of, gain_of, handle_of, calls, missed, tried, stored, put_by, gained}
 use Rattle.work_pool.specs.Drives.{MayOffer, MayFollow, Went, Loud}
 use Rattle.work_pool.specs.Running.{EachFollows, Runs, Asks, Stock, Goes, OffersNone, HandlesOne, Steps, StepsOn, StepsWanting}
 use Rattle.work_pool.specs.declared.pools.Way.{Way}

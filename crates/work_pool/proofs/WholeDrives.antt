@@ -7,9 +7,10 @@ use Rattle.room_gate.specs.Shows.{Caller}
 use Rattle.bay_rule.specs.declared.bay_use.BayUse.{BayUse}
 use Rattle.bay_rule.specs.declared.views.BayView.{BayView}
 use Rattle.bay_rule.specs.Leaving.{first_of}
+use Rattle.bay_core.specs.Times.{times}
 use Rattle.work_pool.specs.Shows.{Worker, IsHand}
 use Rattle.work_pool.specs.Standing.{Standing}
-use Rattle.work_pool.specs.Deeds.{store_of, keep_of, stored, put_by, tried, offered, handled, gained, times}
+use Rattle.work_pool.specs.Deeds.{store_of, keep_of, stored, put_by, tried, offered, handled, gained}
 use Rattle.work_pool.specs.Drives.{MayFollow, Ends, last_asked, Drives}
 use Rattle.work_pool.specs.Running.{Runs, Asks, more_asked, Stock, Goes, Tallies, OffersNone, OffersAll, StepsOn, StepsWanting, StepsOut}
 use Rattle.work_pool.specs.declared.pools.Way.{Way}

@@ -1,6 +1,6 @@
 -- Runs of deeds: lists of them, in their order.
-use Rattle.std.specs.Prelude.{ℕ, List, [], ◌∷◌, eqb}
-use Rattle.std.specs.List.{flat_map, count_by}
+use Rattle.std.specs.Prelude.{ℕ, List, [], ◌∷◌}
+use Rattle.std.specs.List.{flat_map}
 use Rattle.bay_core.specs.declared.calls.Entry.{Entry}
 use Rattle.work_pool.specs.declared.deeds.Deed.{Deed}
 use Rattle.work_pool.specs.declared.deeds.Deed.TheVariants.{Stored, Refused, Withheld, Missed, Took, Handled}
@@ -86,7 +86,3 @@ gained run = flat_map gain_of run
 -- the items that were handled in a run
 abbrev pub handled : List Deed → List ℕ
 handled run = flat_map handle_of run
-
--- how often a number stands in a list
-abbrev pub times : ℕ → List ℕ → ℕ
-times n xs = count_by (λ x. eqb x n) xs

@@ -7,6 +7,7 @@ use Rattle.bay_core.specs.declared.calls.Op.{Op}
 use Rattle.bay_core.specs.declared.calls.Reply.{Reply}
 use Rattle.bay_core.specs.declared.calls.Reply.TheVariants as replies
 use Rattle.bay_core.specs.declared.calls.Entry.{Entry}
+use Rattle.bay_core.specs.Times.{times}
 use Rattle.bay_rule.specs.declared.bay_use.BayUse.{BayUse}
 use Rattle.bay_rule.specs.declared.views.BayView.{BayView}
 use Rattle.bay_rule.specs.Leaving.{first_of}
@@ -15,7 +16,7 @@ use Rattle.work_pool.specs.Gaining.{Gains, KnowsQuiet}
 use Rattle.work_pool.specs.Standing.{Standing}
 use Rattle.work_pool.specs.Ways.{puts, takes}
 use Rattle.work_pool.specs.Takes.{IsTry}
-use Rattle.work_pool.specs.Deeds.{calls, missed, tried, offered, stored, put_by, gained, handled, times}
+use Rattle.work_pool.specs.Deeds.{calls, missed, tried, offered, stored, put_by, gained, handled}
 use Rattle.work_pool.specs.declared.pools.Way.{Way}
 use Rattle.work_pool.specs.declared.deeds.Deed.{Deed}
 use Rattle.work_pool.specs.declared.deeds.Deed.TheVariants.{Stored, Refused, Withheld, Missed, Took, Handled}

@@ -5,10 +5,11 @@ use Rattle.bay_rule.specs.declared.bay_use.BayUse.{BayUse}
 use Rattle.bay_rule.specs.declared.views.BayView.{BayView}
 use Rattle.bay_rule.specs.Leaving.{first_of}
 use Rattle.bay_store.specs.Sharing.{holding}
+use Rattle.bay_core.specs.Times.{times}
 use Rattle.work_pool.specs.Shows.{Worker}
 use Rattle.work_pool.specs.Standing.{Standing, Handles, Keeps, Lacks}
 use Rattle.work_pool.specs.Gaining.{KnowsQuiet}
-use Rattle.work_pool.specs.Deeds.{tried, offered, stored, put_by, gained, handled, times}
+use Rattle.work_pool.specs.Deeds.{tried, offered, stored, put_by, gained, handled}
 use Rattle.work_pool.specs.Drives.{MayOffer, MayFollow, Went, Loud}
 use Rattle.work_pool.specs.declared.pools.Way.{Way}
 use Rattle.work_pool.specs.declared.puts.Put.{Put}

@@ -1,0 +1,76 @@
+//! Crews of one and of three workers, through both lists of their bay.
+ghost use Rattle.std.specs.Prelude.{◌≡◌, ◌≤◌, ◌^◌, map, vec_len, IfOk};
+ghost use Rattle.work_crew.specs.Crews.{AreNew};
+
+use crate::{Ended, run_crew};
+use bay_core::Layout;
+use std::alloc::{AllocError, Global};
+use std::sync::Wait;
+use std::thread::Threads;
+use work_pool::{Crew, OpenGate, Way};
+
+mod halving;
+
+use halving::Twice;
+
+// A work for each worker, of which the first one gives 6.
+fn works_of(alloc: Global, workers: u32) -> Result<Vec<Twice>, AllocError>
+    ensures many { IfOk result (λ works. vec_len works ≡ workers) }
+    ensures new { IfOk result (λ works. AreNew (map (λ work. work) works.items)) }
+{
+    let mut works = Vec::new(alloc);
+    for worker in 0..workers {
+        let first = if worker == 0 { Some(6) } else { None };
+        works.push(Twice::new(alloc, first)?)?;
+    }
+    Ok(works)
+}
+
+// How many items the drives counted, how many were handled, and how many were left.
+fn counts<R: Threads + Wait + Sync>(
+    rt: &R,
+    alloc: Global,
+    crew: &Crew,
+    way: Way,
+) -> Result<(u64, usize, usize), AllocError>
+    requires workers { (1 ≤ crew.now.workers) × (crew.now.workers ≤ 16) }
+    requires blocks { (1 ≤ crew.now.blocks) × (crew.now.blocks ≤ 16384) }
+    requires draws { (1 ≤ crew.now.draws) × (crew.now.draws ≤ 2 ^ 48) }
+{
+    let works = works_of(alloc, crew.workers)?;
+    let Ended {
+        works,
+        drives,
+        left,
+    } = run_crew(rt, alloc, crew, way, works, &OpenGate)?;
+    let mut counted = 0u64;
+    for drive in &drives {
+        counted = counted
+            .saturating_add(drive.shared)
+            .saturating_add(drive.kept);
+    }
+    let mut handled = 0usize;
+    for work in &works {
+        handled = handled.saturating_add(work.done());
+    }
+    Ok((counted, handled, left.len()))
+}
+
+#[test]
+fn what_a_crew_gives_it_does_or_leaves(rt: HostRuntime) -> Result<(), AllocError> {
+    for workers in [1, 3] {
+        for way in [Way::Stack, Way::Queue] {
+            let crew = Crew {
+                workers,
+                blocks: 1,
+                layout: Layout::Split,
+                draws: 1 << 20,
+            };
+            assert_eq!(rt; counts(&rt, rt.alloc(), &crew, way)?, (127, 127, 0));
+            let spent = Crew { draws: 3, ..crew };
+            let (counted, handled, left) = counts(&rt, rt.alloc(), &spent, way)?;
+            assert_eq!(rt; handled.saturating_add(left) as u64, counted);
+        }
+    }
+    Ok(())
+}
