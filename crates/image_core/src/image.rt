@@ -30,6 +30,7 @@ impl Image {
     ghost use Rattle.image_core.specs.Heap.{Heap, IsLawful, IsHeapOf, head_of};
     ghost use Rattle.image_core.specs.Fault.{HasFault, OnFault};
     ghost use Rattle.image_core.specs.Shape.{object_at, Target};
+    ghost use Rattle.image_core.specs.Index.{IsIndex};
     ghost use Rattle.image_core.specs.declared.fault.ReadImage.TheVariants.{Memory};
 
     /// The image of these words and roots. `Fault` where a test of them fails, `Memory` where memory runs out.
@@ -69,6 +70,25 @@ impl Image {
             roots,
             index,
         })
+    }
+
+    /// The image of a heap that is known to be lawful, with its index: by word, 1 + the number of the
+    /// object whose header stands there, or 0. It makes no test and takes no memory.
+    pub fn from_indexed(
+        words: Vec<u64>,
+        roots: Vec<u64>,
+        heads: Vec<u32>,
+        numbers: Vec<u32>,
+    ) -> Image
+        requires lawful { IsLawful (record { words = words.items; roots = roots.items; heads = heads.items }) }
+        requires index { IsIndex heads.items numbers.items }
+        ensures { result ≡ record { words = words.items; roots = roots.items; heads = heads.items } }
+    {
+        Image {
+            words,
+            roots,
+            index: HeaderIndex::from_numbers(heads, numbers),
+        }
     }
 
     /// The heap words.

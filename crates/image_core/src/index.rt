@@ -36,6 +36,14 @@ impl HeaderIndex {
         Ok(HeaderIndex { heads, numbers })
     }
 
+    /// The index of headers whose entries by word are known. It takes no memory.
+    pub fn from_numbers(heads: Vec<u32>, numbers: Vec<u32>) -> HeaderIndex
+        requires { IsIndex heads.items numbers.items }
+        ensures { result ≡ heads.items }
+    {
+        HeaderIndex { heads, numbers }
+    }
+
     /// The places of the headers.
     #[inline]
     pub fn heads(&self) -> &[u32]

@@ -1,6 +1,9 @@
-pub mod Marking
-pub mod Liveness
 pub mod Kept
 pub mod Order
 pub mod Slid
 pub mod Renaming
+pub mod Placing
+pub mod Pieced
+pub mod Halving
+pub mod Account
+pub mod Placed

@@ -1,0 +1,110 @@
+//! The words of objects, moved: renamed by a table of new places.
+ghost use Rattle.std.specs.Prelude.{◌≡◌, ◌+◌, ◌<◌, ◌≤◌, ◌^◌, ◌++◌, length, vec_capacity, vec_len, map, sum_by, All, IfOk};
+ghost use Rattle.std.specs.List.{flat_map};
+ghost use Rattle.image_core.specs.Object.{Fits, size_at, references_at};
+ghost use Rattle.image_slide.specs.Slide.{kept};
+ghost use Rattle.image_slide.specs.Table.{AreNames, new_name, moved_by};
+
+use image_core::{data, references, size};
+use std::alloc::{AllocError, Global};
+
+/// How many words the marked ones of these objects have.
+pub(crate) fn words_of(words: &[u64], heads: &[u32], marks: &[bool]) -> usize
+    requires fit { All (Fits words.now) heads.now }
+    requires few { length heads.now ≤ 2 ^ 20 }
+    ensures { result ≡ sum_by (size_at words.now) (kept heads.now marks.now) }
+{
+    let mut count = 0usize;
+    for (head, marked) in heads.iter().zip(marks) {
+        if *marked {
+            count += size(words[*head as usize]);
+        }
+    }
+    count
+}
+
+/// The words of the marked ones of these objects, one object after another, renamed by the table.
+/// `count` is how many they are.
+pub(crate) fn moved_words(
+    alloc: Global,
+    words: &[u64],
+    heads: &[u32],
+    marks: &[bool],
+    table: &[u32],
+    count: usize,
+) -> Result<Vec<u64>, AllocError>
+    requires fit { All (Fits words.now) heads.now }
+    requires names { All (λ head. AreNames table.now (references_at words.now head)) heads.now }
+    requires count { sum_by (size_at words.now) (kept heads.now marks.now) ≤ count }
+    ensures { IfOk result (λ moved. moved.items ≡ flat_map (moved_by words.now table.now) (kept heads.now marks.now)) }
+{
+    let mut out = Vec::with_capacity(alloc, count)?;
+    for (head, marked) in heads.iter().zip(marks) {
+        if *marked {
+            push_moved(words, *head as usize, table, &mut out);
+        }
+    }
+    Ok(out)
+}
+
+/// Appends the words of an object, renamed by the table. There is room for them.
+fn push_moved(words: &[u64], head: usize, table: &[u32], out: &mut Vec<u64>)
+    requires fits { Fits words.now head }
+    requires names { AreNames table.now (references_at words.now head) }
+    requires room { vec_len out.old + size_at words.now head ≤ vec_capacity out.old }
+    ensures items { out.new.items ≡ out.old.items ++ moved_by words.now table.now head }
+    ensures capacity { vec_capacity out.new ≡ vec_capacity out.old }
+{
+    out.push_reserved(words[head]);
+    push_names(references(words, head), table, out);
+    push_plain(data(words, head), out);
+}
+
+/// Appends these words, renamed by the table. There is room for them.
+#[inline]
+fn push_names(names: &[u64], table: &[u32], out: &mut Vec<u64>)
+    requires names { AreNames table.now names.now }
+    requires room { vec_len out.old + length names.now ≤ vec_capacity out.old }
+    ensures items { out.new.items ≡ out.old.items ++ map (new_name table.now) names.now }
+    ensures capacity { vec_capacity out.new ≡ vec_capacity out.old }
+{
+    for word in names {
+        out.push_reserved(new_name(table, *word));
+    }
+}
+
+/// Appends these words as they are. There is room for them.
+#[inline]
+fn push_plain(plain: &[u64], out: &mut Vec<u64>)
+    requires room { vec_len out.old + length plain.now ≤ vec_capacity out.old }
+    ensures items { out.new.items ≡ out.old.items ++ plain.now }
+    ensures capacity { vec_capacity out.new ≡ vec_capacity out.old }
+{
+    for word in plain {
+        out.push_reserved(*word);
+    }
+}
+
+/// These words, renamed by the table.
+pub(crate) fn new_names(alloc: Global, words: &[u64], table: &[u32]) -> Result<Vec<u64>, AllocError>
+    requires { AreNames table.now words.now }
+    ensures { IfOk result (λ names. names.items ≡ map (new_name table.now) words.now) }
+{
+    words
+        .iter()
+        .map(|word| new_name(table, *word))
+        .collect(alloc)
+}
+
+/// The word that names an object at its place in the table, and 0 for 0.
+#[inline]
+fn new_name(table: &[u32], word: u64) -> u64
+    requires { word ≤ length table.now }
+    ensures { result ≡ new_name table.now word }
+{
+    if word == 0 {
+        0
+    } else {
+        1 + table[(word - 1) as usize] as u64
+    }
+}
