@@ -8,7 +8,7 @@ use crate::status::Status;
 use crate::words::Command;
 use image_mark::mark_with;
 use image_reader::{read_image, write_image};
-use image_slide::slide_one;
+use image_slide::slide_with;
 use std::alloc::Global;
 use std::sync::Wait;
 use std::thread::Threads;
@@ -32,6 +32,6 @@ pub fn compacted<R: Threads + Wait + Sync, G: Gate + Sync>(
     let image = read_image(alloc, &bytes)?;
     drop(bytes);
     let marks = mark_with(rt, alloc, &image, crew, gate)?;
-    let slid = slide_one(alloc, &image, &marks.live)?;
+    let slid = slide_with(rt, alloc, &image, &marks.live, crew, gate)?;
     Ok(write_image(alloc, &slid)?)
 }
