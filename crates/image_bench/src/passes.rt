@@ -8,9 +8,9 @@ use crate::counts::Count;
 use crate::words::Job;
 use bay_core::Layout;
 use image_core::Image;
-use image_mark::mark_with;
+use image_mark::{mark_one, mark_with};
 use image_reader::{fold, make_image};
-use image_slide::{mark_one, slide_one};
+use image_slide::{slide_one, slide_with};
 use std::alloc::Global;
 use std::io;
 use std::io::{Eprint, ErrorKind, Print};
@@ -35,13 +35,14 @@ pub fn time_all<R: Threads + Wait + Sync + Clock + Eprint>(
     let (live, one) = time_mark_one(rt, alloc, &image)?;
     let (count, with) = time_mark_with(rt, alloc, &image, &job.crew)?;
     let slide = time_slide_one(rt, alloc, &image, &live)?;
+    let slide_crew = time_slide_with(rt, alloc, &image, &live, &job.crew)?;
     let gate = Count::new();
     let marks = mark_with(rt, alloc, &image, &job.crew, &gate)?;
     if marks.live != live || count != marks.count {
         return Err(io::Error::from(ErrorKind::InvalidData));
     }
     eprintln!(rt;
-        "objects {} live {} mark_one {one} mark_with {with} questions {} shared {} kept {} slide_one {slide}",
+        "objects {} live {} mark_one {one} mark_with {with} questions {} shared {} kept {} slide_one {slide} slide_with {slide_crew}",
         image.objects(),
         marks.count,
         gate.asked(),
@@ -82,6 +83,22 @@ fn time_slide_one<R: Clock>(rt: &R, alloc: Global, image: &Image, live: &[bool])
     Ok(start.elapsed(rt)?.as_nanos())
 }
 
+// What sliding takes with a crew.
+fn time_slide_with<R: Threads + Wait + Sync + Clock>(
+    rt: &R,
+    alloc: Global,
+    image: &Image,
+    live: &[bool],
+    crew: &Crew,
+) -> io::Result<u128>
+    requires marks { MarksLive image.now live.now }
+    requires crew { IsCrew crew.now }
+{
+    let start = Instant::now(rt)?;
+    let _slid = slide_with(rt, alloc, image, live, crew, &OpenGate)?;
+    Ok(start.elapsed(rt)?.as_nanos())
+}
+
 /// Prints what a crew of 4 workers over 1 block makes of an image of 1,000 objects: how many of them
 /// there are and how many are live, the words before and after the slide, the roots, and the fold of
 /// the slid image. It waits for the workers.
@@ -94,7 +111,7 @@ pub fn try_small<R: Threads + Wait + Sync + Print>(rt: &R, alloc: Global) -> io:
     };
     let image = make_image(alloc, 1000, 1)?;
     let marks = mark_with(rt, alloc, &image, &crew, &OpenGate)?;
-    let slid = slide_one(alloc, &image, &marks.live)?;
+    let slid = slide_with(rt, alloc, &image, &marks.live, &crew, &OpenGate)?;
     println!(rt; "objects {}", image.objects())?;
     println!(rt; "live {}", marks.count)?;
     println!(rt; "words {}", image.words().len())?;

@@ -20,8 +20,8 @@ use work_pool::Gate;
 /// `compact` reads an image and writes its slide: the live objects alone, in order, moved down
 /// without gaps. A crew does it, of 1 worker over 64 blocks or of as many as `--workers N` and
 /// `--blocks B` after it say, in this order; what is written is the same for each crew. Before each
-/// try to take an object the gate is asked with the worker's number, and how often that worker had
-/// asked. `schedule` reads a text of acts and prints the run of the protocol on them.
+/// try to take an object, and again to take a piece that is to be slid, the gate is asked with the
+/// worker's number and how often it had asked for one. `schedule` reads a text of acts and prints the run of the protocol on them.
 /// `trial` reads a text of callers' scripts, has each caller make the calls of its script on one
 /// bay, in a thread of its own where one can be made, and prints their one history, how many lines
 /// each caller had answered, and what is left in the bay. Before line i of caller c the gate is

@@ -503,7 +503,7 @@ fn workers_are_under_way_together(rt: HostRuntime) -> Result<(), Fail> {
     let gate = Meeting::new();
     let expected = alone.ended(&rt, alloc)?;
     let ended = together.under(&rt, alloc, &gate)?;
-    gate.met(&rt, 1);
+    gate.met(&rt, 2);
     assert_eq!(rt; expected.status, Status::Good);
     assert_eq!(rt; ended.status, Status::Good);
     assert!(rt; ended.sink.written() == expected.sink.written());
