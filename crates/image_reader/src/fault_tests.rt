@@ -169,7 +169,7 @@ fn many(alloc: Global, count: usize, first: &[u64], last: u64) -> Result<Vec<u8>
     for word in first {
         numbers.push(*word)?;
     }
-    while numbers.len() <= count {
+    for _ in first.len() + 1..count {
         numbers.push(0)?;
     }
     numbers.push(last)?;
