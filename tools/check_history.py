@@ -4,17 +4,24 @@
 It reads the text from standard input, or from the file that is named: a line for each entry, `TURN
 RANK WHO OP ARG REPLY`, then lines `caller C answered K of L` if there are any, then a line `stack`
 and a line `queue` with the items of the lists at the end, and any lines `live N`. It prints
-`ok N entries`, or the first fault, with status 1. Each list has 32 cells for each block, of which
---blocks says how many there are.
+`ok N entries`, or the first fault, with status 1. --layout and --blocks say what bay it is of. With split
+each list has 32 cells for each block, and a put is answered full exactly where its list has as many
+items. With paged both lists share the blocks, of 64 cells each: a put is answered ok only where the
+blocks that the items need, this one among them, are there, and full only where the list's last
+block has no cell left and no more than one block could be free. A put in between may have either
+answer. Turns without an entry are allowed.
 
-With --trial it also reads the text of the trial whose output the history is. The number of blocks is
-the trial's then, and each caller's entries must be the first lines of its script, in order, each once:
-as many as it has lines, or draws if those are fewer.
+With --trial it also reads the text of the trial whose output the history is. The layout and the number
+of blocks are the trial's then, and each caller's entries must be the first lines of its script, in
+order, each once: with split as many as it has lines, or draws if those are fewer. With paged a caller
+with D draws may have answered K lines, fewer than all, where K is at most D, and K and 2 and a 64th of
+all puts that were answered ok, rounded down, make at least D.
 """
 import argparse
 import sys
 
 FIRST_OF_STACK = 2**32
+BLOCK = 64
 PUTS = ("push", "enq")
 OPERATIONS = ("push", "pop", "enq", "deq")
 
@@ -26,11 +33,35 @@ class Fault(Exception):
 class Bay:
     """A plain stack and a plain queue."""
 
-    def __init__(self, blocks):
-        self.cells = 32 * blocks
+    def __init__(self, layout, blocks):
+        self.paged = layout == "paged"
+        self.blocks = blocks
         self.stack = []
         self.queue = []
         self.taken = 0
+
+    def span(self, items):
+        """The blocks over which a queue of so many items reaches from its first."""
+        return -(-(self.taken + items) // BLOCK) - self.taken // BLOCK
+
+    def has_room(self, operation):
+        """Whether one item more has a cell, however blocks changed hands."""
+        stack, queue = len(self.stack), len(self.queue)
+        if not self.paged:
+            return (stack if operation == "push" else queue) < BLOCK // 2 * self.blocks
+        if operation == "push":
+            return -(-(stack + 1) // BLOCK) + self.span(queue) <= self.blocks
+        return self.span(queue + 1) + -(-stack // BLOCK) <= self.blocks
+
+    def is_tight(self, operation):
+        """Whether one item more may be refused."""
+        stack, queue = len(self.stack), len(self.queue)
+        if not self.paged:
+            return not self.has_room(operation)
+        if operation == "push":
+            return stack % BLOCK == 0 and self.blocks <= stack // BLOCK + self.span(queue) + 1
+        ends = (self.taken + queue) % BLOCK == 0
+        return ends and self.blocks <= self.span(queue) + -(-stack // BLOCK) + 1
 
     def first_rank(self, operation):
         """The rank of the first call of a turn."""
@@ -41,12 +72,14 @@ class Bay:
             "deq": self.taken,
         }[operation]
 
-    def reply(self, operation, item):
-        """What the call answers, and what it leaves."""
+    def reply(self, operation, item, answered):
+        """What the call answers, where it was answered so if it may be, and what it leaves."""
         if operation in PUTS:
-            items = self.stack if operation == "push" else self.queue
-            if len(items) >= self.cells:
+            if answered == "full" and self.is_tight(operation):
                 return "full"
+            if not self.has_room(operation):
+                return "full"
+            items = self.stack if operation == "push" else self.queue
             items.append(item)
             return "ok"
         items = self.stack if operation == "pop" else self.queue
@@ -90,7 +123,7 @@ def check_entry(bay, words, before, calls):
     elif rank != bay.first_rank(operation):
         raise Fault(f"first rank {rank}, not {bay.first_rank(operation)}")
     item = number(argument) if operation in PUTS else 0
-    lawful = bay.reply(operation, item)
+    lawful = bay.reply(operation, item, reply)
     if reply != lawful:
         raise Fault(f"reply {reply}, not {lawful}")
     calls[who] = calls.get(who, 0) + 1
@@ -112,12 +145,14 @@ def check_answered(words, calls, answered):
 
 
 class Trial:
-    """The text of a trial: its blocks, the draws of each caller, and the callers' scripts."""
+    """The text of a trial: its layout and blocks, the draws of each caller, and the callers' scripts."""
 
     def __init__(self, text):
         lines = text.removesuffix("\n").split("\n")
-        if lines[:2] != ["trial 1", "layout split"] or lines[4:5] != ["caller"]:
-            raise Fault("no trial of layout split")
+        layouts = {"layout split": "split", "layout paged": "paged"}
+        if lines[0] != "trial 1" or lines[1] not in layouts or lines[4:5] != ["caller"]:
+            raise Fault("no trial")
+        self.layout = layouts[lines[1]]
         self.blocks, self.draws = (number(line.split(" ")[1]) for line in lines[2:4])
         self.scripts = []
         for line in lines[4:]:
@@ -126,16 +161,26 @@ class Trial:
             else:
                 self.scripts[-1].append(line)
 
+    def may_end(self, made, stored):
+        """Whether a caller may end after so many lines before its last, by its draws."""
+        if self.layout == "split":
+            return made == self.draws
+        return made <= self.draws <= made + 2 + stored // BLOCK
+
     def check(self, entries):
-        """Checks that the entries, as callers and what they called, are those of the scripts."""
+        """Checks that the entries, as callers, what they called and the replies, are of the scripts."""
         told = [[] for _ in self.scripts]
-        for who, call in entries:
+        for who, call, _ in entries:
             if who >= len(told):
                 raise Fault(f"an entry of caller {who}")
             told[who].append(call)
+        stored = sum(reply == "ok" for _, _, reply in entries)
         for who, script in enumerate(self.scripts):
-            if told[who] != script[: self.draws]:
+            made = len(told[who])
+            if told[who] != script[:made] or made > self.draws:
                 raise Fault(f"the entries of caller {who} are not its lines")
+            if made < len(script) and not self.may_end(made, stored):
+                raise Fault(f"caller {who} answered {made} of {len(script)} lines with draws left")
 
 
 def check_list(words, items):
@@ -144,9 +189,9 @@ def check_list(words, items):
         raise Fault(f"the {words[0]} holds other items than the entries leave")
 
 
-def check(lines, blocks):
-    """The entries, as callers and what they called, where all lines are as they should be."""
-    bay, before, calls, answered, stage = Bay(blocks), None, {}, set(), 0
+def check(lines, layout, blocks):
+    """The entries, as callers, calls and replies, where all lines are as they should be."""
+    bay, before, calls, answered, stage = Bay(layout, blocks), None, {}, set(), 0
     stages = {"caller": 1, "stack": 2, "queue": 3, "live": 4}
     entries = []
     for place, line in enumerate(lines, 1):
@@ -159,7 +204,7 @@ def check(lines, blocks):
             if now == 0:
                 before = check_entry(bay, words, before, calls)
                 call = words[3] if words[4] == "-" else " ".join(words[3:5])
-                entries.append((number(words[2]), call))
+                entries.append((number(words[2]), call, words[5]))
             elif now == 1:
                 check_answered(words, calls, answered)
             elif now == 2:
@@ -180,6 +225,7 @@ def check(lines, blocks):
 def main():
     """Reads, checks and prints."""
     options = argparse.ArgumentParser(description="Checks the printed history of a bay.")
+    options.add_argument("--layout", choices=["split", "paged"], default="split")
     options.add_argument("--blocks", type=int, default=64)
     options.add_argument("--trial", metavar="SCRIPT", help="the text of the trial")
     options.add_argument("file", nargs="?")
@@ -196,7 +242,8 @@ def main():
         if given.trial:
             with open(given.trial, encoding="ascii") as file:
                 trial = Trial(file.read())
-        entries = check(text[:-1].split("\n"), trial.blocks if trial else given.blocks)
+        bay = trial or given
+        entries = check(text[:-1].split("\n"), bay.layout, bay.blocks)
         if trial:
             trial.check(entries)
         print(f"ok {len(entries)} entries")

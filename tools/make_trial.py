@@ -2,7 +2,8 @@
 """Prints the text of a trial: callers with scripts of pushes, pops, enqueues and dequeues by chance.
 
 The numbers of callers and of lines for each come first, and the seed last, by which the same text
-comes again. Each list has 32 cells for each of --blocks blocks, so that some items find no cell.
+comes again. With --layout split each list has 32 cells for each of --blocks blocks; with paged both share
+as many blocks of 64 cells, at least 2. So some items find no cell.
 """
 import argparse
 import random
@@ -14,11 +15,13 @@ def main():
     options.add_argument("callers", type=int)
     options.add_argument("lines", type=int)
     options.add_argument("seed", type=int)
-    options.add_argument("--blocks", type=int, default=1)
+    options.add_argument("--layout", choices=["split", "paged"], default="split")
+    options.add_argument("--blocks", type=int)
     options.add_argument("--draws", type=int, default=2**48)
     given = options.parse_args()
     chance = random.Random(given.seed)
-    print("trial 1", "layout split", f"blocks {given.blocks}", f"draws {given.draws}", sep="\n")
+    blocks = given.blocks or {"split": 1, "paged": 2}[given.layout]
+    print("trial 1", f"layout {given.layout}", f"blocks {blocks}", f"draws {given.draws}", sep="\n")
     for caller in range(given.callers):
         print("caller")
         for line in range(given.lines):

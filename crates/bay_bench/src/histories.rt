@@ -1,4 +1,7 @@
 //! The history of a crew: printed, or checked.
+ghost use Rattle.room_script.specs.Trials.{IsBlocks};
+
+use crate::words::Blocks;
 use bay_core::{Entry, Layout};
 use bay_crew::{Mix, crew};
 use room_history::{check, merge, print_entries};
@@ -9,9 +12,6 @@ use std::io::{ErrorKind, Print};
 use std::sync::Wait;
 use std::thread::Threads;
 
-/// How many blocks the bay has.
-const BLOCKS: u32 = 64;
-
 // The failure of a history that isn't as it should be.
 fn not_whole() -> io::Error {
     io::Error::from(ErrorKind::InvalidData)
@@ -21,13 +21,24 @@ fn not_whole() -> io::Error {
 fn history<R: Threads + Wait + Sync>(
     rt: &R,
     alloc: Global,
+    blocks: Blocks,
     callers: u32,
     calls: u32,
-) -> io::Result<(Vec<Entry>, Played)> {
+) -> io::Result<(Vec<Entry>, Played)>
+    requires { IsBlocks blocks.layout blocks.count }
+{
     if callers > 64 {
         return Err(not_whole());
     }
-    let ran = crew(rt, alloc, BLOCKS, callers, calls, Mix::Both)?;
+    let ran = crew(
+        rt,
+        alloc,
+        blocks.layout,
+        blocks.count,
+        callers,
+        calls,
+        Mix::Both,
+    )?;
     match merge(alloc, &ran.entries) {
         Ok(all) => Ok((all, ran)),
         Err(_) => Err(not_whole()),
@@ -39,10 +50,13 @@ fn history<R: Threads + Wait + Sync>(
 pub fn print_history<R: Threads + Wait + Sync + Print>(
     rt: &R,
     alloc: Global,
+    blocks: Blocks,
     callers: u32,
     calls: u32,
-) -> io::Result<()> {
-    let (all, ran) = history(rt, alloc, callers, calls)?;
+) -> io::Result<()>
+    requires { IsBlocks blocks.layout blocks.count }
+{
+    let (all, ran) = history(rt, alloc, blocks, callers, calls)?;
     let text = print_entries(alloc, &all)?;
     let Ok(lines) = String::from_utf8(text) else {
         return Err(not_whole());
@@ -62,10 +76,21 @@ fn print_items<R: Print>(rt: &R, name: &str, items: &[u64]) -> io::Result<()> {
     println!(rt)
 }
 
-/// Checks a small history, and that it leaves what the bay had left. It fails where that isn't so.
-pub fn try_history<R: Threads + Wait + Sync>(rt: &R, alloc: Global) -> io::Result<()> {
-    let (all, ran) = history(rt, alloc, 4, 50)?;
-    let Ok(state) = check(alloc, Layout::Split, BLOCKS, &all) else {
+/// Checks a small history under each layout, and that it leaves what the bay had left. It fails where
+/// that isn't so.
+pub fn try_histories<R: Threads + Wait + Sync>(rt: &R, alloc: Global) -> io::Result<()> {
+    for layout in [Layout::Split, Layout::Paged] {
+        try_history(rt, alloc, Blocks { layout, count: 2 })?;
+    }
+    Ok(())
+}
+
+// Checks a small history.
+fn try_history<R: Threads + Wait + Sync>(rt: &R, alloc: Global, blocks: Blocks) -> io::Result<()>
+    requires { IsBlocks blocks.layout blocks.count }
+{
+    let (all, ran) = history(rt, alloc, blocks, 4, 50)?;
+    let Ok(state) = check(alloc, blocks.layout, blocks.count, &all) else {
         return Err(not_whole());
     };
     let (oldest, newest) = state.queue().as_slices();

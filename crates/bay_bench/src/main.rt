@@ -1,9 +1,14 @@
 //! A program that prints the history of a bay, and times its calls.
 //!
 //! With the words `stack N` or `queue N` it writes to standard error what a call takes where each
-//! thread puts N items and takes as many. With the words `history CALLERS CALLS` it prints the entries of all calls and what the bay had
-//! left; there are at most 64 callers. With no word it makes a small history and checks it.
+//! thread puts N items and takes as many. With the words `history CALLERS CALLS` it prints the entries
+//! of all calls and what the bay had left; there are at most 64 callers. After these words two more may
+//! stand, `split` or `paged` and the number of blocks; without them it is `split 64`. With no word it
+//! makes small histories and checks them.
 #![tactic(auto)]
+
+ghost use Rattle.std.specs.Prelude.{IfOk, IfSome};
+ghost use Rattle.bay_bench.specs.Words.{HasBay};
 
 mod histories;
 mod timing;
@@ -17,7 +22,9 @@ use std::process::ExitCode;
 use words::{Command, named_command};
 
 // The command that the words of the command line name, if they name one.
-fn command<R: Env + AllocGlobal>(rt: &R) -> io::Result<Option<Command>> {
+fn command<R: Env + AllocGlobal>(rt: &R) -> io::Result<Option<Command>>
+    ensures { IfOk result (λ command. IfSome command HasBay) }
+{
     let words = std::env::args(rt)?
         .skip(1)
         .collect::<Vec<String>>(rt.alloc())?;
@@ -26,11 +33,13 @@ fn command<R: Env + AllocGlobal>(rt: &R) -> io::Result<Option<Command>> {
 
 fn main(rt: HostRuntime) -> ExitCode {
     let done = match command(&rt) {
-        Ok(Some(Command::History(callers, calls))) => {
-            histories::print_history(&rt, rt.alloc(), callers, calls)
+        Ok(Some(Command::History(callers, calls, blocks))) => {
+            histories::print_history(&rt, rt.alloc(), blocks, callers, calls)
         }
-        Ok(Some(Command::Time(mix, items))) => timing::time_all(&rt, rt.alloc(), mix, items),
-        Ok(Some(Command::Try)) => histories::try_history(&rt, rt.alloc()),
+        Ok(Some(Command::Time(mix, items, blocks))) => {
+            timing::time_all(&rt, rt.alloc(), blocks, mix, items)
+        }
+        Ok(Some(Command::Try)) => histories::try_histories(&rt, rt.alloc()),
         Ok(None) => return refused(&rt),
         Err(error) => Err(error),
     };

@@ -1,7 +1,7 @@
 -- The calls of a crew.
 use Rattle.std.specs.Prelude.{ℕ, ◌+◌, ◌*◌, ◌^◌, ◌/◌, ◌%◌, ◌==◌, ◌||◌, Bool, true, false, List, map, if◌then◌else◌}
 use Rattle.std.specs.List.{range_with_len}
-use Rattle.bay_core.specs.declared.calls.Layout.TheVariants.{Split}
+use Rattle.bay_core.specs.declared.calls.Layout.{Layout}
 use Rattle.room_script.specs.Trials.{Outline}
 use Rattle.room_script.specs.declared.trials.Line.{Line}
 use Rattle.room_script.specs.declared.trials.Line.TheVariants as lines
@@ -43,6 +43,6 @@ abbrev pub scripts_of : Mix → ℕ → ℕ → List (List Line)
 scripts_of mix callers calls = map (script_of mix calls) (range_with_len 0 callers)
 
 -- the trial of a crew, whose callers have more draws than calls
-abbrev pub crew_outline : ℕ → ℕ → ℕ → Mix → Outline
-crew_outline blocks callers calls mix =
-    record { layout = Split; blocks = blocks; draws = 2 ^ 40; scripts = scripts_of mix callers calls }
+abbrev pub crew_outline : Layout → ℕ → ℕ → ℕ → Mix → Outline
+crew_outline layout blocks callers calls mix =
+    record { layout = layout; blocks = blocks; draws = 2 ^ 40; scripts = scripts_of mix callers calls }

@@ -1,5 +1,7 @@
 //! Callers that call at the same time, each in a thread of its own.
 ghost use Rattle.std.specs.Prelude.{◌≤◌, IfOk};
+ghost use Rattle.bay_core.specs.declared.numbers.TheConstants.{MOST_CALLERS};
+ghost use Rattle.room_script.specs.Trials.{IsBlocks};
 ghost use Rattle.room_trial.specs.Histories.{IsPlayed};
 ghost use Rattle.bay_crew.specs.Mixes.{crew_outline};
 
@@ -16,7 +18,7 @@ use work_pool::OpenGate;
 /// How many draws each pass may make: more than there are numbers of calls.
 pub(crate) const DRAWS: u64 = 1_099_511_627_776;
 
-/// Sets up a bay of `blocks` blocks, 1 to 16384, has up to 64 callers make `calls` calls each at the same
+/// Sets up a bay of `blocks` blocks, 1 to 16384 and at least 2 with `Paged`, has up to 64 callers make `calls` calls each at the same
 /// time, and closes the bay. On each list of `mix` a caller puts, puts, takes, puts, takes and takes,
 /// and then again; call k of caller c puts the item c * 2^32 + k. The answer is that of a trial with
 /// these calls as its scripts.
@@ -26,18 +28,18 @@ pub(crate) const DRAWS: u64 = 1_099_511_627_776;
 pub fn crew<R: Threads + Wait + Sync>(
     rt: &R,
     alloc: Global,
+    layout: Layout,
     blocks: u32,
     callers: u32,
     calls: u32,
     mix: Mix,
 ) -> Result<Played, AllocError>
-    requires some_blocks { 1 ≤ blocks }
-    requires few_blocks { blocks ≤ 16384 }
-    requires few_callers { callers ≤ 64 }
-    ensures { IfOk result (λ played. IsPlayed (crew_outline blocks callers calls mix) played) }
+    requires blocks { IsBlocks layout blocks }
+    requires callers { callers ≤ MOST_CALLERS }
+    ensures { IfOk result (λ played. IsPlayed (crew_outline layout blocks callers calls mix) played) }
 {
     let trial = Trial {
-        layout: Layout::Split,
+        layout,
         blocks,
         draws: DRAWS,
         scripts: scripts(alloc, mix, callers, calls)?,

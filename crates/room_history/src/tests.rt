@@ -148,3 +148,41 @@ fn each_call_and_reply_has_its_words(rt: HostRuntime) -> Result<(), Fail> {
     assert_eq!(rt; print_entries(rt.alloc(), &[])?.len(), 0);
     Ok(())
 }
+
+// So many pushes on an empty stack, each in a turn of its own, and one that is answered full.
+fn pushes_and_a_full(alloc: Global, stored: u64) -> Result<Vec<Entry>, Fail> {
+    let mut entries = Vec::new(alloc);
+    for item in 0..stored {
+        let turn = item.saturating_add(1);
+        entries.push(entry(turn, TOP.saturating_add(item), Op::Push, item, Reply::Done))?;
+    }
+    let turn = stored.saturating_add(1);
+    entries.push(entry(turn, TOP.saturating_add(stored), Op::Push, 7, Reply::Full))?;
+    Ok(entries)
+}
+
+#[test]
+fn a_push_is_full_where_its_layout_has_no_cell(rt: HostRuntime) -> Result<(), Fail> {
+    let cases = [
+        (Layout::Split, 64, true),
+        (Layout::Split, 63, false),
+        (Layout::Paged, 128, true),
+        (Layout::Paged, 64, true),
+        (Layout::Paged, 63, false),
+        (Layout::Paged, 0, false),
+    ];
+    for (layout, stored, lawful) in cases {
+        let entries = pushes_and_a_full(rt.alloc(), stored)?;
+        let answer = match check(rt.alloc(), layout, 2, &entries) {
+            Ok(_) => None,
+            Err(fault) => Some(fault),
+        };
+        let wanted = if lawful {
+            None
+        } else {
+            Some(CheckFault::Unlawful(stored as usize))
+        };
+        assert_eq!(rt; answer, wanted);
+    }
+    Ok(())
+}

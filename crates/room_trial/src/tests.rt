@@ -24,6 +24,14 @@ fn a_trial_prints_its_history_and_what_is_left(rt: HostRuntime) -> Result<(), Fa
             "trial 1\nlayout split\nblocks 1\ndraws 9\ncaller\nenq 3\npush 4\nenq 5\ndeq\ndeq\ndeq\nenq 6\n",
             "1 0 0 enq 3 ok\n2 4294967296 0 push 4 ok\n3 1 0 enq 5 ok\n4 0 0 deq - 3\n5 1 0 deq - 5\n6 2 0 deq - empty\n7 2 0 enq 6 ok\ncaller 0 answered 7 of 7\nstack 4\nqueue 6\n",
         ),
+        (
+            "trial 1\nlayout paged\nblocks 2\ndraws 100\ncaller\npush 5\npop\n",
+            "2 4294967296 0 push 5 ok\n3 4294967295 0 pop - 5\ncaller 0 answered 2 of 2\nstack\nqueue\n",
+        ),
+        (
+            "trial 1\nlayout paged\nblocks 2\ndraws 1\ncaller\npush 5\n",
+            "caller 0 answered 0 of 1\nstack\nqueue\n",
+        ),
     ];
     for (text, output) in cases {
         let script = read_trial(rt.alloc(), text.as_bytes())?;

@@ -74,11 +74,25 @@ fn put_and_take<R: Wait + Abort>(rt: &R, bay: &Bay, hand: Hand, way: Way)
 
 #[test]
 fn an_item_is_taken_and_then_all_is_quiet(rt: HostRuntime) -> Result<(), AllocError> {
-    for way in [Way::Stack, Way::Queue] {
-        let (bay, mut passes) = Bay::set_up(rt.alloc(), Layout::Split, 1, 1, 10)?;
-        let hand = hand_of(&bay, &mut passes).expect(&rt, "a hand");
-        put_and_take(&rt, &bay, hand, way);
+    for layout in [Layout::Split, Layout::Paged] {
+        for way in [Way::Stack, Way::Queue] {
+            let (bay, mut passes) = Bay::set_up(rt.alloc(), layout, 2, 1, 10)?;
+            let hand = hand_of(&bay, &mut passes).expect(&rt, "a hand");
+            put_and_take(&rt, &bay, hand, way);
+        }
     }
+    Ok(())
+}
+
+#[test]
+fn the_only_draw_overflows_and_the_item_comes_back(rt: HostRuntime) -> Result<(), AllocError> {
+    let (bay, mut passes) = Bay::set_up(rt.alloc(), Layout::Paged, 2, 1, 1)?;
+    let hand = hand_of(&bay, &mut passes).expect(&rt, "a hand");
+    let pool = Pool::over(&bay, Way::Stack);
+    let (hand, put) = pool.put(&rt, hand, 4);
+    assert_eq!(rt; put, Put::Spent(4));
+    assert_eq!(rt; (hand.held(), hand.asked()), (1, 0));
+    assert_eq!(rt; hand.pass().draws(), 1);
     Ok(())
 }
 
