@@ -48,3 +48,6 @@ fn refused<R: Eprint>(rt: &R) -> ExitCode {
         Err(_) => ExitCode::FAILURE,
     }
 }
+
+#[cfg(test)]
+mod tests;
