@@ -1,6 +1,8 @@
 -- Words name at most one command.
 use Rattle.std.proofs.Common.{◌≡◌, ℕ, ◌≤◌, List, [], ◌∷◌, refl, sym, ap, subst, ◌∙◌, arith}
 use Rattle.std.proofs.lemmas.Fmt.{decimal_injective}
+use Rattle.bay_core.specs.declared.calls.Layout.{Layout}
+use Rattle.bay_core.specs.declared.calls.Layout.TheVariants.{Split, Paged}
 use Rattle.work_pool.specs.declared.crews.Crew.{Crew}
 use Rattle.rooms_program.specs.Words.{IsOption, Tells, GivesCrew, HasCrew, Names, word_of}
 use Rattle.rooms_program.specs.declared.words.Command.{Command}
@@ -53,10 +55,18 @@ told_limits (word ∷ value ∷ []) workers blocks t = (t.0.within, (omega arith
 told_limits (word ∷ value ∷ other ∷ size ∷ []) workers blocks t = (t.0.within, t.1.within)
 told_limits _ workers blocks t = absurd t
 
+no_paged : (layout : Layout) → layout ≡ Split → layout ≡ Paged → ⊥
+no_paged layout split paged = cc
+
 -- a command that words name has a crew within its limits
 pub named_crew : (words : List (List ℕ)) (command : Command) → Names words command → HasCrew command
 named_crew [] command n = absurd n
 named_crew (word ∷ rest) (Compact crew) n =
     let limits = told_limits rest crew.workers crew.blocks n.1.told in
-    record { workers = limits.0; blocks = limits.1; draws = (omega (arith, n.1.draws), omega (arith, n.1.draws)) }
+    record {
+      workers = limits.0;
+      blocks = limits.1;
+      paged = λ paged. absurd (no_paged crew.layout n.1.layout paged);
+      draws = (omega (arith, n.1.draws), omega (arith, n.1.draws));
+    }
 named_crew (word ∷ rest) command n = tt
