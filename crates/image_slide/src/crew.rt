@@ -18,7 +18,7 @@ use crate::joins::joined;
 use crate::moves::new_names;
 use crate::pieces::{Part, pieces_of, slid_piece};
 use crate::places::new_places;
-use crate::slide::Moved;
+use crate::slide::{Moved, slide_one};
 use crate::sliders::{Slider, sliders};
 use image_core::Image;
 use std::alloc::{AllocError, Global};
@@ -31,7 +31,7 @@ use work_pool::{Crew, Gate, Way};
 /// thread of its own where one can be made. `live` has a value for each object: whether it is live.
 /// The new places are known first. Then the objects are slid in pieces of 256: the workers share
 /// ranges of pieces through the queue of one bay, and each piece is slid once. Pieces that spent passes
-/// left in the bay are slid after it is closed. Whatever the crew, the gate and the order of the steps,
+/// left in the bay are slid after it is closed. A crew of one slides alone. Whatever the crew, the gate and the order of the steps,
 /// the answer is that of `slide_one`.
 ///
 /// The gate is asked before each try to take from the bay, by the worker's number. The call waits for
@@ -49,6 +49,9 @@ pub fn slide_with<R: Threads + Wait + Sync, G: Gate + Sync>(
     requires crew { IsCrew crew.now }
     ensures { IfOk result (λ slid. slid ≡ slide image.now live.now) }
 {
+    if crew.workers == 1 {
+        return slide_one(alloc, image, live);
+    }
     let moved = moved_with(rt, alloc, image, live, crew, gate)?;
     Ok(Image::from_indexed(moved.words, moved.roots, moved.heads, moved.numbers))
 }
