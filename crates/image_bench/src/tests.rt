@@ -91,6 +91,18 @@ fn spent_passes_leave_work_that_is_done_all_the_same(rt: HostRuntime) -> Result<
     Ok(())
 }
 
+#[test]
+fn children_and_roots_name_their_objects(rt: HostRuntime) -> Result<(), Fail> {
+    let image = make_image(rt.alloc(), 1, 1)?;
+    assert_eq!(rt; (image.objects(), image.roots().len()), (1, 1));
+    if image.objects() == 1 && image.roots().len() == 1 && image.get(0).refs == 2 {
+        assert_eq!(rt; (image.child(0, 0), image.child(0, 1)), (Some(0), Some(0)));
+        assert_eq!(rt; image.root(0), Some(0));
+    }
+    assert_eq!(rt; image.words(), [65538, 1, 1, 4483995].as_slice());
+    Ok(())
+}
+
 // A gate that holds each of two workers at its first question until the other has come.
 #[derive(Drop)]
 struct Meeting {
