@@ -1,13 +1,13 @@
 -- What the texts of a parse are.
-use Rattle.std.proofs.Common.{◌≡◌, ◌≢◌, ℕ, ◌≤◌, List, [], ◌∷◌, ◌++◌, length, refl, sym, ap, subst, ◌∙◌, arith, append_assoc, Option, Some, None, option_map, is_some, true, false, codes}
+use Rattle.std.proofs.Common.{◌≡◌, ◌≢◌, ℕ, List, [], ◌++◌, refl, sym, ap, ◌∙◌, append_assoc, Option, Some, None, option_map, is_some, true}
 use Rattle.std.proofs.lemmas.Bool.{false≢true}
 use Rattle.std.specs.Borrow.{Bor}
-use Rattle.clap.specs.Words.{fault_of, matches_of, first_of}
-use Rattle.command_words.specs.Parts.{Name, workers, blocks, layout, Part, AreParts, given, plains}
+use Rattle.clap.specs.Words.{fault_of}
+use Rattle.command_words.specs.Parts.{workers, blocks, layout, Part, AreParts}
 use Rattle.command_words.specs.Texts.{listed, operands_of, Assigns, AreAssignable}
 use Rattle.command_words.specs.Clap.{words_app, AreMatched}
 use Rattle.command_words.specs.declared.texts.Texts.{Texts}
-use Rattle.command_words.proofs.Slots.{Slot, optional, command, objects, seed, slot_id, Gifts, nothing_given, Place, first, second, third, past, place_after, Good, after, AreFirst, AreFew, one, options_after, operands_after, good_of_few}
+use Rattle.command_words.proofs.Slots.{optional, command, objects, seed, Gifts, nothing_given, Place, first, second, third, past, place_after, Good, after, AreFirst, one, options_after, operands_after, good_of_few}
 use Rattle.command_words.proofs.Parses.{faultless, good_of_faultless, matches_show}
 
 abbrev read : Option (Bor (List ℕ)) → Option (List ℕ)

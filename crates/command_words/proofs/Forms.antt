@@ -1,11 +1,11 @@
 -- Words and the parts that they begin.
-use Rattle.std.proofs.Common.{◌≡◌, ◌≢◌, ◌↔◌, ℕ, ◌+◌, ◌<◌, ◌≤◌, List, [], ◌∷◌, ◌++◌, get_or, drop, length, refl, sym, ap, subst, ◌∙◌, arith, append_assoc, Bool, true, false, codes, Option, Some, None, IfSome}
-use Rattle.std.specs.List.{All, flat_map}
+use Rattle.std.proofs.Common.{◌≡◌, ◌↔◌, ℕ, ◌+◌, ◌<◌, ◌≤◌, List, [], ◌∷◌, ◌++◌, get_or, drop, length, refl, sym, ap, subst, ◌∙◌, arith, append_assoc, Bool, true, false, codes, Option, Some, None, IfSome}
+use Rattle.std.specs.List.{flat_map}
 use Rattle.std.proofs.lemmas.List.Elements.{All-head, All-tail, All-cons, All-nil}
 use Rattle.std.proofs.lemmas.List.{append-nil, drop_more, drop_all}
 use Rattle.std.proofs.lemmas.Bool.{false≢true, true≢false}
-use Rattle.command_words.specs.Parts.{Name, workers, blocks, layout, word_of, IsPlain, Part, joined, apart, plain, words_of, IsPart, AreParts}
-use Rattle.command_words.specs.Forms.{IsForm, IsOptionForm, IsRestForm, HaveParts, Follow}
+use Rattle.command_words.specs.Parts.{Name, workers, blocks, layout, word_of, IsPlain, Part, joined, apart, plain, words_of, IsPart}
+use Rattle.command_words.specs.Forms.{IsForm, IsOptionForm, HaveParts, Follow}
 use Rattle.command_words.specs.declared.parts.Form.{Form}
 use Rattle.command_words.specs.declared.parts.Form.TheVariants.{Plain, Joined, Apart, Other}
 

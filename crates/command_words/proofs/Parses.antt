@@ -1,6 +1,6 @@
 -- A whole parse of words that are parts.
-use Rattle.std.proofs.Common.{◌≡◌, ℕ, List, [], ◌∷◌, refl, sym, ap, subst, ◌∙◌, None, Bool, true, false, ◌||◌}
-use Rattle.std.specs.List.{All, flat_map, fold}
+use Rattle.std.proofs.Common.{◌≡◌, List, [], ◌∷◌, refl, sym, ap, subst, ◌∙◌, None, Bool, true, false, ◌||◌}
+use Rattle.std.specs.List.{fold}
 use Rattle.std.specs.Bool.{if◌then◌else◌}
 use Rattle.clap.specs.Walk.{Row, Rule, Text, Held, nothing_held, with_default, has_row, finished, settled, is_empty, default_rows, reading_by}
 use Rattle.clap.specs.Words.{fault_of, matches_of}
@@ -8,11 +8,10 @@ use Rattle.clap.specs.Simple.{built}
 use Rattle.clap.specs.Faults.{defaults_fault, default_fault, check_fault, given_default_fault, level_fault, walk_fault, settle_fault}
 use Rattle.clap.specs.Kinds.{Kinds, or_else}
 use Rattle.clap.proofs.FaultLemmas.{leaf_fault}
-use Rattle.clap.proofs.OnLiterals.{clap_on_literals}
-use Rattle.command_words.specs.Parts.{Part, words_of, IsPart, AreParts}
+use Rattle.command_words.specs.Parts.{Part, AreParts}
 use Rattle.command_words.specs.Clap.{words_app}
 use Rattle.command_words.proofs.Steps.{shape, rules_}
-use Rattle.command_words.proofs.Slots.{first, Good, after, nothing_given, AreFirst}
+use Rattle.command_words.proofs.Slots.{first, Good, after, nothing_given}
 use Rattle.command_words.proofs.GivenRows.{Shows}
 use Rattle.command_words.proofs.Walks.{Fine, Done, stand, ending, complete, sound, or_nil, nil_or}
 

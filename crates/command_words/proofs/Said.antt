@@ -1,10 +1,11 @@
 -- What parts say is determined.
-use Rattle.std.proofs.Common.{◌≡◌, ◌≢◌, ℕ, ◌⊎◌, inl, inr, codes, MatchOption, ◌^◌, ◌<◌, ◌≤◌, List, [], ◌∷◌, ◌++◌, refl, sym, ap, subst, ◌∙◌, arith, get_or, length, Option, Some, None, is_some, ◌==◌, ◌||◌}
+use Rattle.std.proofs.Common.{◌≡◌, ◌≢◌, ℕ, ◌⊎◌, inl, inr, codes, MatchOption, ◌<◌, ◌≤◌, List, [], ◌∷◌, ◌++◌, refl, sym, ap, subst, ◌∙◌, arith, get_or, length, Option, Some, None, is_some, ◌==◌, ◌||◌}
 use Rattle.std.proofs.lemmas.Fmt.{decimal_injective}
 use Rattle.std.proofs.lemmas.Option.{none-some}
 use Rattle.std.specs.Borrow.{Bor}
 use Rattle.room_script.specs.Numbers.{IsNumber}
 use Rattle.bay_core.specs.declared.calls.Layout.{Layout}
+use Rattle.bay_core.specs.declared.calls.Layout.TheVariants.{Split, Paged}
 use Rattle.command_words.specs.Parts.{Name, workers, blocks, layout, Part, AreParts, given, plains}
 use Rattle.command_words.specs.Forms.{HaveParts}
 use Rattle.std.specs.Bool.{if◌then◌else◌}
@@ -68,8 +69,19 @@ count_once (value ∷ more ∷ texts) most without a b this that = absurd this
 
 layout_once : (texts : List (List ℕ)) (a b : Layout) → IsLayout texts a → IsLayout texts b → a ≡ b
 layout_once [] a b this that = this ∙ sym that
-layout_once (value ∷ []) a b this that = this.1 ∙ sym that.1
+layout_once (value ∷ []) Split Split this that = refl
+layout_once (value ∷ []) Split Paged this that = absurd (let bad : 115 ≡ 112 = ap (λ w. get_or w 0 0) (sym this ∙ that) in omega (arith, bad))
+layout_once (value ∷ []) Paged Split this that = absurd (let bad : 112 ≡ 115 = ap (λ w. get_or w 0 0) (sym this ∙ that) in omega (arith, bad))
+layout_once (value ∷ []) Paged Paged this that = refl
 layout_once (value ∷ more ∷ texts) a b this that = absurd this
+
+-- parts that give a layout its shared blocks give two of them
+pub unroomed : (parts : List Part) (chosen : Layout) (size : ℕ) → IsLayout (given layout parts) chosen → IsCount (given blocks parts) 16384 64 size
+    → chosen ≡ Paged → size < 2 → (options : Options) → GiveOptions parts options → ⊥
+unroomed parts chosen size is count shared few options give =
+    let same = layout_once (given layout parts) options.layout chosen give.layout_is is in
+    let sized = count_once (given blocks parts) 16384 64 options.blocks size give.blocks_are count in
+    omega (arith, give.paged (same ∙ shared), sized, few)
 
 pub options_once : (parts : List Part) (a b : Options) → GiveOptions parts a → GiveOptions parts b → a ≡ b
 options_once parts a b this that =

@@ -1,16 +1,16 @@
 -- What `clap` makes of each part.
-use Rattle.std.proofs.Common.{◌≡◌, ◌≢◌, ℕ, zero, suc, ◌+◌, ◌==◌, ◌&&◌, List, [], ◌∷◌, ◌++◌, refl, sym, ap, subst, ◌∙◌, arith, Option, Some, None, Bool, true, false, codes}
-use Rattle.clap.specs.Walk.{Row, Rule, Text, Held, Walk, idle, option, walked, used, settled_rows, has_row, with_values, without, Waiting, value as taken, trailing, subcommand_or_other, long_or_other, short_or_plain, plain_word, after_step, pushed, settled, is_pending}
+use Rattle.std.proofs.Common.{◌≡◌, ℕ, ◌==◌, ◌&&◌, List, [], ◌∷◌, ◌++◌, refl, ap, ◌∙◌, Option, Some, None, Bool, true, false, codes}
+use Rattle.clap.specs.Walk.{Row, Rule, Text, Held, Walk, idle, option, walked, used, settled_rows, Waiting, value as taken, trailing, subcommand_or_other, long_or_other, short_or_plain, plain_word, after_step, pushed, settled}
 use Rattle.clap.specs.Lexer.{long_of, short_of}
 use Rattle.std.specs.Str.{bytes_eq}
 use Rattle.std.specs.Option.{option_map_or}
 use Rattle.std.specs.Bool.{if◌then◌else◌}
-use Rattle.clap.specs.Simple.{Shape, built, new_rule, filled, with_index}
-use Rattle.clap.specs.Faults.{bundle_fault, flag_word_fault, other_fault, step_fault, turn_fault, settle_fault, use_fault, walk_fault}
-use Rattle.clap.specs.Kinds.{Kinds, or_else}
+use Rattle.clap.specs.Simple.{Shape, built, filled}
+use Rattle.clap.specs.Faults.{bundle_fault, flag_word_fault, other_fault, step_fault, turn_fault, settle_fault, use_fault}
+use Rattle.clap.specs.Kinds.{or_else}
 use Rattle.clap.specs.declared.error.kind.ErrorKind.TheVariants as kind
 use Rattle.clap.proofs.OnLiterals.{clap_on_literals}
-use Rattle.command_words.specs.Parts.{Name, workers, blocks, layout, word_of, IsPlain}
+use Rattle.command_words.specs.Parts.{Name, workers, blocks, layout, word_of}
 use Rattle.command_words.specs.Clap.{words_app, id_of, option_rule}
 
 and_false : (b : Bool) → (b && false) ≡ false

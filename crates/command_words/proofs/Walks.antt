@@ -1,8 +1,7 @@
 -- A parse by `clap` of words that are parts: it fails exactly where an option is given twice or a word stands past the operands,
 -- and else its rows show what is given.
-use Rattle.std.proofs.Common.{◌≡◌, ◌≢◌, ℕ, ◌+◌, ◌==◌, ◌&&◌, List, [], ◌∷◌, ◌++◌, length, inl, inr, refl, sym, ap, subst, ◌∙◌, arith, ne_eqb, Option, Some, None, Bool, true, false, not, is_some, codes}
+use Rattle.std.proofs.Common.{◌≡◌, ℕ, ◌==◌, ◌&&◌, List, [], ◌∷◌, ◌++◌, length, refl, sym, ap, subst, ◌∙◌, arith, ne_eqb, Option, Some, None, Bool, true, false, not, is_some, codes}
 use Rattle.std.specs.List.{All, flat_map, fold}
-use Rattle.std.proofs.lemmas.Bool.{false≢true, true≢false}
 use Rattle.std.proofs.lemmas.List.Elements.{All-head, All-tail}
 use Rattle.std.specs.Bool.{if◌then◌else◌}
 use Rattle.clap.specs.Walk.{Row, Rule, Text, Held, Walk, walked, used, settled_rows, has_row, with_values, without, reading_by}
@@ -11,7 +10,7 @@ use Rattle.clap.specs.Faults.{turn_fault, settle_fault, use_fault, walk_fault}
 use Rattle.clap.specs.Kinds.{Kinds, or_else}
 use Rattle.clap.specs.declared.error.kind.ErrorKind.TheVariants as kind
 use Rattle.clap.specs.declared.parser.matches.ValueSource.TheVariants.{CommandLine}
-use Rattle.command_words.specs.Parts.{Name, workers, blocks, layout, word_of, IsPlain, Part, joined, apart, plain, words_of, IsPart, plains}
+use Rattle.command_words.specs.Parts.{workers, blocks, layout, word_of, Part, joined, apart, plain, words_of, IsPart, plains}
 use Rattle.command_words.specs.Clap.{id_of}
 use Rattle.command_words.proofs.Steps.{shape, rules_, at_rest, waits_for, option_, joined_step, joined_fault, apart_step, apart_fault, value_step, first_step, second_step, third_step, turn_waiting, first_fault, second_fault, third_fault, fourth_fault}
 use Rattle.command_words.proofs.Slots.{Slot, optional, command, objects, seed, slot_id, Gifts, with_gift, Place, first, second, third, past, Good, after, AreFirst, AreFirst-option, operand_first, operand_second, operand_third}

@@ -4,7 +4,7 @@ use Rattle.clap.specs.Words.{App, Rule, Shape, new_app, new_rule, with_rule}
 use Rattle.clap.specs.Simple.{on_top}
 use Rattle.clap.specs.Words.{first_of, matches_of}
 use Rattle.command_words.specs.declared.texts.Texts.{Texts}
-use Rattle.command_words.specs.Parts.{Name, workers, blocks, layout, word_of}
+use Rattle.command_words.specs.Parts.{Name, word_of}
 
 -- an option's name, which is its word without the hyphens
 abbrev pub id_of : Name → List ℕ

@@ -2,7 +2,7 @@
 use Rattle.std.specs.Prelude.{◌≡◌, ℕ, ◌^◌, ◌≤◌, List, [], ◌∷◌, codes, Option, Some, None}
 use Rattle.room_script.specs.Numbers.{IsNumber}
 use Rattle.bay_core.specs.declared.calls.Layout.{Layout}
-use Rattle.bay_core.specs.declared.calls.Layout.TheVariants.{Split}
+use Rattle.bay_core.specs.declared.calls.Layout.TheVariants.{Split, Paged}
 use Rattle.command_words.specs.Parts.{workers, blocks, layout, Part, AreParts, given, plains}
 use Rattle.command_words.specs.declared.command.Command.{Command}
 use Rattle.command_words.specs.declared.command.Command.TheVariants.{Compact, Mark, Check, Make, Trial, Schedule}
@@ -48,10 +48,15 @@ IsCount [] most without count = count ≡ without
 IsCount (value ∷ []) most without count = IsNumber value count × (1 ≤ count) × (count ≤ most)
 IsCount (value ∷ more ∷ values) most without count = ⊥
 
--- the values of the option of the layout: `split`, or none
+-- the word of a layout
+abbrev pub layout_word : Layout → List ℕ
+layout_word Split = codes "split"
+layout_word Paged = codes "paged"
+
+-- the values of the option of the layout: its word, or none, which means that it is split
 abbrev pub IsLayout : List (List ℕ) → Layout → Type 0
 IsLayout [] chosen = chosen ≡ Split
-IsLayout (value ∷ []) chosen = (value ≡ codes "split") × (chosen ≡ Split)
+IsLayout (value ∷ []) chosen = value ≡ layout_word chosen
 IsLayout (value ∷ more ∷ values) chosen = ⊥
 
 -- the parts give these options, each at most once
@@ -59,6 +64,8 @@ pub record GiveOptions (parts : List Part) (options : Options) : Type 0 where
   pub workers_are : IsCount (given workers parts) 16 1 options.workers
   pub blocks_are : IsCount (given blocks parts) 16384 64 options.blocks
   pub layout_is : IsLayout (given layout parts) options.layout
+  -- two lists that share blocks need two of them
+  pub paged : options.layout ≡ Paged → 2 ≤ options.blocks
 
 -- they give none
 pub record GiveNone (parts : List Part) : Type 0 where

@@ -25,7 +25,7 @@ pub enum Command {
 pub struct Options {
     /// How many workers there are, 1 to 16.
     pub workers: u32,
-    /// How many blocks their bay has, 1 to 16384.
+    /// How many blocks their bay has, 1 to 16384, and with pages at least 2.
     pub blocks: u32,
     /// How the bay lays its blocks out.
     pub layout: Layout,

@@ -12,8 +12,8 @@ use std::alloc::{AllocError, Global};
 /// none. It takes memory, and `AllocError` comes only where memory runs out.
 ///
 /// Options and operands stand in any order, as `--workers 4` or `--workers=4`; `--workers` is 1 to 16
-/// and else 1, `--blocks` 1 to 16384 and else 64, `--layout` is `split`. Each stands at most once, and
-/// only with `compact` and `mark`. `make` takes two operands, and `mark` may: how many objects, up to
+/// and else 1, `--blocks` 1 to 16384 and else 64, `--layout` is `split` or `paged` and else `split`; with
+/// `paged` there are at least 2 blocks. Each stands at most once, and only with `compact` and `mark`. `make` takes two operands, and `mark` may: how many objects, up to
 /// 2^20, and a seed. Numbers are decimal digits without a sign and without a leading zero.
 pub fn named_command(alloc: Global, words: &[String]) -> Result<Option<Command>, AllocError>
     ensures names { IfOk result (λ found. MatchOption found

@@ -21,6 +21,14 @@ fn options(workers: u32, blocks: u32) -> Options {
     }
 }
 
+fn paged(workers: u32, blocks: u32) -> Options {
+    Options {
+        workers,
+        blocks,
+        layout: Layout::Paged,
+    }
+}
+
 const THREE: Made = Made {
     objects: 3,
     seed: 5,
@@ -33,7 +41,7 @@ const MOST: Made = Made {
 
 #[test]
 fn words_that_name_a_command(rt: HostRuntime) -> Result<(), Fail> {
-    let cases: [(&str, Command); 16] = [
+    let cases: [(&str, Command); 20] = [
         ("compact", Command::Compact(options(1, 64))),
         ("check", Command::Check),
         ("trial", Command::Trial),
@@ -56,6 +64,19 @@ fn words_that_name_a_command(rt: HostRuntime) -> Result<(), Fail> {
             Command::Compact(options(1, 16384)),
         ),
         ("--layout=split mark", Command::Mark(options(1, 64), None)),
+        ("compact --layout paged", Command::Compact(paged(1, 64))),
+        (
+            "--blocks 2 compact --layout=paged --workers 4",
+            Command::Compact(paged(4, 2)),
+        ),
+        (
+            "mark 3 5 --layout paged --blocks=16384",
+            Command::Mark(paged(1, 16384), Some(THREE)),
+        ),
+        (
+            "--layout split compact --blocks 1",
+            Command::Compact(options(1, 1)),
+        ),
         (
             "mark --workers 4 --blocks 2 3 5",
             Command::Mark(options(4, 2), Some(THREE)),
@@ -75,7 +96,7 @@ fn words_that_name_a_command(rt: HostRuntime) -> Result<(), Fail> {
     Ok(())
 }
 
-const REFUSED: [&str; 48] = [
+const REFUSED: [&str; 56] = [
     "",
     " ",
     "compact ",
@@ -109,7 +130,15 @@ const REFUSED: [&str; 48] = [
     "compact --workers=2 --workers 2",
     "compact --blocks 0",
     "compact --blocks 16385",
-    "compact --layout paged",
+    "compact --layout paged --blocks 1",
+    "--blocks=1 mark --layout=paged",
+    "compact --layout paged --blocks 0",
+    "compact --layout paged --blocks 16385",
+    "compact --layout paged --layout paged",
+    "compact --layout page",
+    "compact --layout",
+    "compact --layout=",
+    "check --layout paged",
     "compact --layout=Split",
     "compact --worker 2",
     "compact -w 2",

@@ -1,7 +1,8 @@
 //! What the texts say.
-ghost use Rattle.std.specs.Prelude.{◌≡◌, ◌≢◌, ◌⊎◌, ℕ, codes, List, ◌++◌, Option, Some, None, MatchOption};
+ghost use Rattle.std.specs.Prelude.{◌≡◌, ◌≢◌, ◌⊎◌, ℕ, ◌<◌, ◌≤◌, codes, List, ◌++◌, Option, Some, None, MatchOption};
 ghost use Rattle.std.specs.Bool.{OnTrue, OnFalse};
 ghost use Rattle.bay_core.specs.declared.calls.Layout.{Layout};
+ghost use Rattle.bay_core.specs.declared.calls.Layout.TheVariants.{Paged};
 ghost use Rattle.command_words.specs.Parts.{Part};
 ghost use Rattle.command_words.specs.Texts.{listed, Assigns};
 ghost use Rattle.command_words.specs.Words.{IsCalled, IsCount, IsLayout, IsMade, AreOperands, GiveOptions, GiveNone, IsSaid};
@@ -83,11 +84,29 @@ fn options(texts: &Texts) -> Option<Options>
     ensures { (parts : List Part) → Assigns parts texts.now
         → MatchOption result ((other : Options) → ¬ GiveOptions parts other) (GiveOptions parts) }
 {
-    Some(Options {
-        workers: count(texts.workers, MOST_WORKERS, 1)?,
-        blocks: count(texts.blocks, MOST_BLOCKS, 64)?,
-        layout: layout(texts.layout)?,
-    })
+    let workers = count(texts.workers, MOST_WORKERS, 1)?;
+    let blocks = count(texts.blocks, MOST_BLOCKS, 64)?;
+    let layout = layout(texts.layout)?;
+    if has_room(layout, blocks) {
+        Some(Options {
+            workers,
+            blocks,
+            layout,
+        })
+    } else {
+        None
+    }
+}
+
+/// Whether there are blocks enough for a layout: two lists that share blocks need two of them.
+fn has_room(layout: Layout, blocks: u32) -> bool
+    ensures yes { OnTrue result (layout ≡ Paged → 2 ≤ blocks) }
+    ensures no_ { OnFalse result ((layout ≡ Paged) × (blocks < 2)) }
+{
+    match layout {
+        Layout::Split => true,
+        Layout::Paged => blocks >= 2,
+    }
 }
 
 /// The number of an option: from 1 to the most, and this one where the option is not given.
@@ -111,6 +130,7 @@ fn layout(text: Option<&str>) -> Option<Layout>
     match text {
         None => Some(Layout::Split),
         Some("split") => Some(Layout::Split),
+        Some("paged") => Some(Layout::Paged),
         Some(_) => None,
     }
 }

@@ -1,8 +1,7 @@
-use Rattle.std.proofs.Common.{◌≡◌, ◌≢◌, [], inl, inr, rules, map, string_bytes, subst}
-use Rattle.clap.specs.Words.{Kinds, HasKind, fault_of, kind_of}
+use Rattle.std.proofs.Common.{◌≡◌, [], inl, inr, rules, map, string_bytes, subst}
+use Rattle.clap.specs.Words.{Kinds, HasKind, kind_of}
 use Rattle.clap.specs.declared.error.Error.{Error}
 use Rattle.clap.specs.declared.error.kind.ErrorKind.TheVariants.{OutOfMemory}
-use Rattle.command_words.specs.Clap.{words_app}
 use Rattle.command_words.proofs.Assigned.{texts_assigned, none_assigned}
 use Rattle.command_words.proofs.assign.assigned.Goals as goal
 

@@ -1,7 +1,4 @@
-use Rattle.std.proofs.Common.{◌≡◌, Some, None, List, ℕ, MatchOption, map, string_bytes, true, rules}
-use Rattle.command_words.specs.Parts.{Part, AreParts}
-use Rattle.command_words.specs.Words.{IsSaid}
-use Rattle.command_words.specs.declared.command.Command.{Command}
+use Rattle.std.proofs.Common.{map, string_bytes}
 use Rattle.command_words.proofs.Said.{named_told, only_told, said_assignable}
 use Rattle.command_words.proofs.naming.named_command.Goals as goal
 

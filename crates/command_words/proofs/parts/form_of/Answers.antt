@@ -1,6 +1,3 @@
-use Rattle.std.proofs.Common.{◌≡◌, ℕ, List, true, false, rules, sym, ◌∙◌, ap}
-use Rattle.std.proofs.lemmas.Bool.{false≢true}
-use Rattle.command_words.specs.Parts.{workers, blocks, layout, IsPlain}
 use Rattle.command_words.proofs.Forms.{no_option}
 use Rattle.command_words.proofs.parts.form_of.Goals as goal
 

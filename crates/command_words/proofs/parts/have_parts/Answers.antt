@@ -1,7 +1,7 @@
-use Rattle.std.proofs.Common.{◌≡◌, ◌<◌, ℕ, [], ◌∙◌, ap, sym, arith, get_or, map, length, string_bytes, rules, false, true}
+use Rattle.std.proofs.Common.{◌≡◌, ◌<◌, [], arith, get_or, map, length, string_bytes}
 use Rattle.std.proofs.lemmas.List.{get_or-map, length-map}
 use Rattle.std.proofs.lemmas.Bool.{false≢true}
-use Rattle.command_words.proofs.Forms.{follow_more, follow_none, follow_end}
+use Rattle.command_words.proofs.Forms.{follow_more, follow_none}
 use Rattle.command_words.proofs.parts.have_parts.Goals as goal
 
 pub returns-in-None : goal.returns-in-None

@@ -1,5 +1,5 @@
 use Rattle.std.proofs.Common.{rules}
-use Rattle.command_words.proofs.Said.{answer_options, answer_bare, takes_options, takes_none, unsaid_with, unsaid_without}
+use Rattle.command_words.proofs.Said.{answer_options, answer_bare, takes_options, takes_none}
 use Rattle.command_words.proofs.values.said.Goals as goal
 
 pub returns-in_ok-options : goal.returns-in_ok-options
