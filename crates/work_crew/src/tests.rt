@@ -1,5 +1,6 @@
 //! Crews of one and of three workers, through both lists of their bay.
-ghost use Rattle.std.specs.Prelude.{◌≡◌, ◌≤◌, ◌^◌, map, vec_len, IfOk};
+ghost use Rattle.std.specs.Prelude.{◌≡◌, map, vec_len, IfOk};
+ghost use Rattle.work_pool.specs.Crews.{IsCrew};
 ghost use Rattle.work_crew.specs.Crews.{AreNew};
 
 use crate::{Ended, run_crew};
@@ -33,9 +34,7 @@ fn counts<R: Threads + Wait + Sync>(
     crew: &Crew,
     way: Way,
 ) -> Result<(u64, usize, usize), AllocError>
-    requires workers { (1 ≤ crew.now.workers) × (crew.now.workers ≤ 16) }
-    requires blocks { (1 ≤ crew.now.blocks) × (crew.now.blocks ≤ 16384) }
-    requires draws { (1 ≤ crew.now.draws) × (crew.now.draws ≤ 2 ^ 48) }
+    requires { IsCrew crew.now }
 {
     let works = works_of(alloc, crew.workers)?;
     let Ended {
@@ -62,7 +61,7 @@ fn what_a_crew_gives_it_does_or_leaves(rt: HostRuntime) -> Result<(), AllocError
         for way in [Way::Stack, Way::Queue] {
             let crew = Crew {
                 workers,
-                blocks: 1,
+                blocks: 2,
                 layout: Layout::Split,
                 draws: 1 << 20,
             };
