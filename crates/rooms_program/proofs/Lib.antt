@@ -1,6 +1,6 @@
 pub mod Digits
 pub mod Inputs
-pub mod Naming
+pub mod Limits
 pub mod Performing
 pub mod Schedules
 pub mod Trials

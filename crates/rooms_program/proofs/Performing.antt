@@ -4,14 +4,13 @@ use Rattle.std.specs.declared.option.Option.{Option}
 use Rattle.std.specs.declared.result.Result.{Result}
 use Rattle.std.specs.Io.KnownBytes.{Appends}
 use Rattle.room_io.specs.Causes.{Rose, AppendsPrefix}
-use Rattle.rooms_program.specs.Commands.{most_bytes, Accepts, IsOutput, Refuses}
+use Rattle.rooms_program.specs.Commands.{Reads, most_bytes, Accepts, IsOutput, Refuses}
 use Rattle.rooms_program.specs.Runs.{WasRead, WroteAll, WrotePart, WasRefused, IsAnswered, IsRefusal, Leaves}
-use Rattle.rooms_program.specs.Words.{Is, Names}
-use Rattle.rooms_program.specs.declared.words.Command.{Command}
+use Rattle.rooms_program.specs.Limits.{Is}
+use Rattle.command_words.specs.declared.command.Command.{Command}
 use Rattle.rooms_program.specs.declared.status.Status.{Status}
 use Rattle.rooms_program.specs.declared.status.Status.TheVariants.{Good, Words, ReadFault, WriteFault, Memory}
-use Rattle.rooms_program.proofs.Inputs.{read_to_end, read_accepted}
-use Rattle.rooms_program.proofs.Naming.{of_named}
+use Rattle.rooms_program.proofs.Inputs.{unread_accepts, refusing_reads, read_to_end, read_accepted}
 
 -- what is made of an input: an output, or why there is none
 abbrev Made : Type 0
@@ -21,8 +20,13 @@ Made = Result (Vec ℕ Global) Status
 abbrev IsWhy : Command → List ℕ → Status → Type 0
 IsWhy command bytes why = (why ≡ Memory) ⊎ (IsRefusal why × Refuses command bytes why)
 
+-- want of memory is why
+pub made_why : (command : Command) (bytes : List ℕ) (made : Made) → IfErr made (λ why. why ≡ Memory) → IfErr made (IsWhy command bytes)
+made_why command bytes (Ok output) memory = tt
+made_why command bytes (Err why) memory = inl memory
+
 module _ (command : Command) (left now_left : Option (List ℕ)) (bytes : List ℕ) (answer : Status)
-    (read : WasRead (most_bytes command) left now_left bytes) where
+    (read : Reads command → WasRead (most_bytes command) left now_left bytes) where
   -- a refusal is of the bytes that were read
   was_refused : (B : Type 0) (made : Made) → IfErr made (IsWhy command bytes)
       → IfOk made (λ _. (answer ≡ Good) ⊎ ((answer ≡ WriteFault) × B)) → IfErr made (λ why. answer ≡ why)
@@ -32,7 +36,7 @@ module _ (command : Command) (left now_left : Option (List ℕ)) (bytes : List �
   was_refused B (Err e) why wrote same refusal =
       elim why [
         | inl m ↦ absurd (subst IsRefusal (same ∙ m) refusal)
-        | inr r ↦ record { bytes = bytes; read = read; refuses = subst (Refuses command bytes) (sym same) r.1 }
+        | inr r ↦ record { bytes = bytes; read = read (refusing_reads command bytes e r.1); refuses = subst (Refuses command bytes) (sym same) r.1 }
       ]
 
   module _ (written now_written : Option (List ℕ)) where
@@ -43,8 +47,8 @@ module _ (command : Command) (left now_left : Option (List ℕ)) (bytes : List �
     wrote_all (Ok output) defined why wrote same good = record {
       input = bytes;
       output = output.items;
-      taken = read.taken;
-      ended = read_to_end command left now_left bytes output.items read defined;
+      taken = λ reads. (read reads).taken;
+      ended = λ reads. read_to_end command left now_left bytes output.items reads (read reads) defined;
       defined = defined;
       wrote = wrote good;
     }
@@ -58,8 +62,8 @@ module _ (command : Command) (left now_left : Option (List ℕ)) (bytes : List �
     wrote_part (Ok output) defined why wrote same fault = record {
       input = bytes;
       output = output.items;
-      taken = read.taken;
-      ended = read_to_end command left now_left bytes output.items read defined;
+      taken = λ reads. (read reads).taken;
+      ended = λ reads. read_to_end command left now_left bytes output.items reads (read reads) defined;
       defined = defined;
       wrote = wrote fault;
     }
@@ -83,18 +87,18 @@ module _ (B : Type 0) (answer : Status) where
 
   -- the answer that an input gets is that of the bytes that were read of it
   answered : (A : Type 0) (command : Command) (left : Option (List ℕ)) (bytes : List ℕ) (made : Made)
-      → IfSome left (λ input. bytes ≡ take (most_bytes command + 1) input)
+      → (Reads command → IfSome left (λ input. bytes ≡ take (most_bytes command + 1) input))
       → (Accepts command bytes → IfErr made (λ why. why ≡ Memory))
       → ((why : Status) → Refuses command bytes why → (made ≡ Err why) ⊎ (made ≡ Err Memory))
       → IfOk made (λ _. (answer ≡ Good) ⊎ ((answer ≡ WriteFault) × B)) → IfErr made (λ why. answer ≡ why)
       → IfSome left (λ input. ¬ A → ¬ B → IsAnswered command input answer)
-  answered A command None bytes made known accepts refuses wrote same = known
+  answered A command None bytes made known accepts refuses wrote same = tt
   answered A command (Some input) bytes made known accepts refuses wrote same = λ no_read no_write.
       record {
         accepts = λ a. answer_accepted made (accepts (read_accepted command input bytes known a)) wrote same no_write;
         refuses = λ why r.
             let P : List ℕ → Type 0 = λ b. Refuses command b why in
-            answer_refused made why (refuses why (subst P (sym known) r)) same;
+            answer_refused made why (refuses why (subst P (sym (known (refusing_reads command _ why r))) r)) same;
       }
 
 -- what holds of good, of a failed write, of want of memory and of each refusal of the bytes holds of the answer
@@ -119,48 +123,135 @@ kept sink now_sink answer B (Err e) same wrote no_good no_fault = same
 for_this : (P : Command → Type 0) (this : Command) → P this → (told : Command) → Is this told → P told
 for_this P this h told is = subst P (sym is) h
 
-module _ {S K : Type 0} (left : S → Option (List ℕ)) (read_faults : S → ℕ) (written : K → Option (List ℕ)) (write_faults : K → ℕ)
-    (source now_source : S) (sink now_sink : K) (answer : Status) where
-  -- a run that reads an input, makes what it is to write of it, and writes that, leaves what it should
-  pub performed : (command : Command) (bytes : List ℕ) (made : Made)
-      → WasRead (most_bytes command) (left source) (left now_source) bytes
-      → IfSome (left source) (λ input. bytes ≡ take (most_bytes command + 1) input)
-      → IfOk made (λ output. IsOutput command bytes output.items) → IfErr made (IsWhy command bytes)
-      → (Accepts command bytes → IfErr made (λ why. why ≡ Memory))
-      → ((why : Status) → Refuses command bytes why → (made ≡ Err why) ⊎ (made ≡ Err Memory))
-      → IfOk made (λ output. answer ≡ Good → Appends (written sink) (written now_sink) output.items)
-      → IfOk made (λ output. answer ≡ WriteFault → AppendsPrefix (written sink) (written now_sink) output.items)
-      → IfOk made (λ _. (answer ≡ Good) ⊎ ((answer ≡ WriteFault) × Rose (write_faults sink) (write_faults now_sink)))
-      → IfErr made (λ why. answer ≡ why) → IfErr made (λ _. now_sink ≡ sink)
-      → Leaves left read_faults written write_faults (Is command) source now_source sink now_sink answer
-  performed command bytes made read known defined why accepts refuses good cut wrote same unwritten =
-      let B = Rose (write_faults sink) (write_faults now_sink) in
-      let no_words : answer ≢ Words = ended command bytes answer B (λ s. s ≢ Words) (λ e. cc) (λ _ e. cc) (λ e. cc) (λ s r e. subst IsRefusal e r) made why wrote same in
-      let no_read : answer ≢ ReadFault = ended command bytes answer B (λ s. s ≢ ReadFault) (λ e. cc) (λ _ e. cc) (λ e. cc) (λ s r e. subst IsRefusal e r) made why wrote same in
-      record {
-        words = (λ e. absurd (no_words e), λ none. absurd (none command refl));
-        unread = λ e. absurd (no_words e);
-        good = for_this _ command (wrote_all command (left source) (left now_source) bytes answer read (written sink) (written now_sink) made defined why good same);
-        refused = for_this _ command (was_refused command (left source) (left now_source) bytes answer read B made why wrote same);
-        read = λ e. absurd (no_read e);
-        write = ended command bytes answer B (λ s. s ≡ WriteFault → B) (λ e. absurd (cc)) (λ b e. b) (λ e. absurd (cc)) (λ s r e. absurd (subst IsRefusal e r)) made why wrote same;
-        cut = for_this _ command (wrote_part command (left source) (left now_source) bytes answer read (written sink) (written now_sink) made defined why cut same);
-        unwritten = kept sink now_sink answer B made unwritten wrote;
-        complete = for_this _ command (answered B answer (Rose (read_faults source) (read_faults now_source)) command (left source) bytes made known accepts refuses wrote same);
-      }
+-- and of the one that it is
+for_some : (P : Command → Type 0) (this other : Command) → Some this ≡ Some other → P this → P other
+for_some P this other is h = let same : this ≡ other = cc in subst P same h
 
-  -- and where words name the command, it leaves what they tell
-  pub told : (words : List (List ℕ)) (this : Command) → Names words this
-      → Leaves left read_faults written write_faults (Is this) source now_source sink now_sink answer
-      → Leaves left read_faults written write_faults (Names words) source now_source sink now_sink answer
-  told words this names run = record {
-    words = (λ e. absurd (run.words.0 e this refl), λ none. absurd (none this names));
-    unread = run.unread;
-    good = of_named _ words this names (run.good this refl);
-    refused = of_named _ words this names (run.refused this refl);
-    read = run.read;
-    write = run.write;
-    cut = of_named _ words this names (run.cut this refl);
-    unwritten = run.unwritten;
-    complete = of_named _ words this names (run.complete this refl);
-  }
+-- want of memory answers each input
+wanting_answer : (command : Command) (left : Option (List ℕ)) (A B : Type 0) → IfSome left (λ input. ¬ A → ¬ B → IsAnswered command input Memory)
+wanting_answer command None A B = tt
+wanting_answer command (Some input) A B = λ _ _. record { accepts = λ _. inr refl; refuses = λ _ _. inr refl }
+
+-- where no read failed, a run without an input was wanting memory
+unread_answer : (command : Command) (left : Option (List ℕ)) (answer : Status) (A B : Type 0) → (answer ≡ Memory) ⊎ ((answer ≡ ReadFault) × Reads command × A)
+    → IfSome left (λ input. ¬ A → ¬ B → IsAnswered command input answer)
+unread_answer command left answer A B (inl m) = subst (λ s. IfSome left (λ input. ¬ A → ¬ B → IsAnswered command input s)) (sym m) (wanting_answer command left A B)
+unread_answer command None answer A B (inr f) = tt
+unread_answer command (Some input) answer A B (inr f) = λ no_read _. absurd (no_read f.2)
+
+module _ {S K : Type 0} (left : S → Option (List ℕ)) (read_faults : S → ℕ) (written : K → Option (List ℕ)) (write_faults : K → ℕ) where
+  module _ (source now_source : S) (sink now_sink : K) (answer : Status) where
+    -- a run that reads an input, makes what it is to write of it, and writes that, leaves what it should
+    pub performed : (command : Command) (bytes : List ℕ) (made : Made)
+        → (Reads command → WasRead (most_bytes command) (left source) (left now_source) bytes)
+        → (Reads command → IfSome (left source) (λ input. bytes ≡ take (most_bytes command + 1) input))
+        → (¬ Reads command → now_source ≡ source)
+        → IfOk made (λ output. IsOutput command bytes output.items) → IfErr made (IsWhy command bytes)
+        → (Accepts command bytes → IfErr made (λ why. why ≡ Memory))
+        → ((why : Status) → Refuses command bytes why → (made ≡ Err why) ⊎ (made ≡ Err Memory))
+        → IfOk made (λ output. answer ≡ Good → Appends (written sink) (written now_sink) output.items)
+        → IfOk made (λ output. answer ≡ WriteFault → AppendsPrefix (written sink) (written now_sink) output.items)
+        → IfOk made (λ _. (answer ≡ Good) ⊎ ((answer ≡ WriteFault) × Rose (write_faults sink) (write_faults now_sink)))
+        → IfErr made (λ why. answer ≡ why) → IfErr made (λ _. now_sink ≡ sink)
+        → Leaves left read_faults written write_faults (Is command) source now_source sink now_sink answer
+    performed command bytes made read known unread defined why accepts refuses good cut wrote same unwritten =
+        let B = Rose (write_faults sink) (write_faults now_sink) in
+        let no_words : answer ≢ Words = ended command bytes answer B (λ s. s ≢ Words) (λ e. cc) (λ _ e. cc) (λ e. cc) (λ s r e. subst IsRefusal e r) made why wrote same in
+        let no_read : answer ≢ ReadFault = ended command bytes answer B (λ s. s ≢ ReadFault) (λ e. cc) (λ _ e. cc) (λ e. cc) (λ s r e. subst IsRefusal e r) made why wrote same in
+        record {
+          words = λ e. absurd (no_words e);
+          unnamed = λ none. absurd (none command refl);
+          unread = λ none. unread (none command refl);
+          good = for_this _ command (wrote_all command (left source) (left now_source) bytes answer read (written sink) (written now_sink) made defined why good same);
+          refused = for_this _ command (was_refused command (left source) (left now_source) bytes answer read B made why wrote same);
+          read = λ e. absurd (no_read e);
+          reader = λ _ _ e. absurd (no_read e);
+          write = ended command bytes answer B (λ s. s ≡ WriteFault → B) (λ e. absurd (cc)) (λ b e. b) (λ e. absurd (cc)) (λ s r e. absurd (subst IsRefusal e r)) made why wrote same;
+          cut = for_this _ command (wrote_part command (left source) (left now_source) bytes answer read (written sink) (written now_sink) made defined why cut same);
+          unwritten = kept sink now_sink answer B made unwritten wrote;
+          complete = for_this _ command (answered B answer (Rose (read_faults source) (read_faults now_source)) command (left source) bytes made known accepts refuses wrote same);
+          made = for_this _ command (λ no_reads. answer_accepted B answer made (accepts (unread_accepts command no_reads bytes)) wrote same);
+        }
+
+    -- and where it was told this one command, it leaves what that tells
+    pub told : (Told : Command → Type 0) (this : Command) → Told this → ((other : Command) → Told other → Some this ≡ Some other)
+        → Leaves left read_faults written write_faults (Is this) source now_source sink now_sink answer
+        → Leaves left read_faults written write_faults Told source now_source sink now_sink answer
+    told Told this is once run =
+        let each : (P : Command → Type 0) → P this → (other : Command) → Told other → P other = λ P h other o. for_some P this other (once other o) h in
+        record {
+          words = λ e. absurd (run.words e this refl);
+          unnamed = λ none. absurd (none this is);
+          unread = λ none. run.unread (for_this (λ c. ¬ Reads c) this (none this is));
+          good = each _ (run.good this refl);
+          refused = each _ (run.refused this refl);
+          read = run.read;
+          reader = each _ (run.reader this refl);
+          write = run.write;
+          cut = each _ (run.cut this refl);
+          unwritten = run.unwritten;
+          complete = each _ (run.complete this refl);
+          made = each _ (run.made this refl);
+        }
+
+  module _ (source now_source : S) (sink : K) where
+    -- a run that had no input leaves its sink as it was
+    pub without_input : (command : Command) (answer : Status) → (¬ Reads command → now_source ≡ source)
+        → (answer ≡ Memory) ⊎ ((answer ≡ ReadFault) × Reads command × Rose (read_faults source) (read_faults now_source))
+        → Leaves left read_faults written write_faults (Is command) source now_source sink sink answer
+    without_input command answer unread why =
+        let R = Rose (read_faults source) (read_faults now_source) in
+        let is : (P : Status → Type 0) → P Memory → (Reads command → R → P ReadFault) → P answer =
+        λ P memory fault. elim why [ inl m ↦ subst P (sym m) memory | inr f ↦ subst P (sym f.0) (fault f.1 f.2) ] in
+        let no_good : answer ≢ Good = is (λ s. s ≢ Good) (λ e. cc) (λ _ _ e. cc) in
+        let no_write : answer ≢ WriteFault = is (λ s. s ≢ WriteFault) (λ e. cc) (λ _ _ e. cc) in
+        let no_refusal : ¬ IsRefusal answer = is (λ s. ¬ IsRefusal s) (λ r. r) (λ _ _ r. r) in
+        record {
+          words = is (λ s. s ≡ Words → (other : Command) → ¬ Is command other) (λ e. absurd (cc)) (λ _ _ e. absurd (cc));
+          unnamed = λ none. absurd (none command refl);
+          unread = λ none. unread (none command refl);
+          good = λ _ _ e. absurd (no_good e);
+          refused = λ _ _ r. absurd (no_refusal r);
+          read = is (λ s. s ≡ ReadFault → R) (λ e. absurd (cc)) (λ _ rose _. rose);
+          reader = for_this _ command (is (λ s. s ≡ ReadFault → Reads command) (λ e. absurd (cc)) (λ reads _ _. reads));
+          write = λ e. absurd (no_write e);
+          cut = λ _ _ e. absurd (no_write e);
+          unwritten = λ _ _. refl;
+          complete = for_this _ command (unread_answer command (left source) answer R (Rose (write_faults sink) (write_faults sink)) why);
+          made = for_this _ command (λ no_reads _. elim why [ inl m ↦ inr m | inr f ↦ absurd (no_reads f.1) ]);
+        }
+
+  module _ (Told : Command → Type 0) (source : S) (sink : K) where
+    -- a run for which memory was wanting before it read
+    pub wanting : Leaves left read_faults written write_faults Told source source sink sink Memory
+    wanting = record {
+      words = λ e. absurd (cc);
+      unnamed = λ _. inr refl;
+      unread = λ _. refl;
+      good = λ _ _ e. absurd (cc);
+      refused = λ _ _ r. absurd r;
+      read = λ e. absurd (cc);
+      reader = λ _ _ e. absurd (cc);
+      write = λ e. absurd (cc);
+      cut = λ _ _ e. absurd (cc);
+      unwritten = λ _ _. refl;
+      complete = λ command _. wanting_answer command (left source) _ _;
+      made = λ _ _ _ _. inr refl;
+    }
+
+    -- and one that was told no command
+    pub untold : ((command : Command) → ¬ Told command) → Leaves left read_faults written write_faults Told source source sink sink Words
+    untold none = record {
+      words = λ _. none;
+      unnamed = λ _. inl refl;
+      unread = λ _. refl;
+      good = λ command is. absurd (none command is);
+      refused = λ command is. absurd (none command is);
+      read = λ e. absurd (cc);
+      reader = λ command is. absurd (none command is);
+      write = λ e. absurd (cc);
+      cut = λ command is. absurd (none command is);
+      unwritten = λ _ _. refl;
+      complete = λ command is. absurd (none command is);
+      made = λ command is. absurd (none command is);
+    }

@@ -15,7 +15,7 @@ use Rattle.room_script.specs.Schedules.{Plan, Spells, IsSchedule}
 use Rattle.rooms_program.specs.Commands.{Refuses}
 use Rattle.rooms_program.specs.Schedules.{IsRunnable}
 use Rattle.rooms_program.specs.Texts.{most_text}
-use Rattle.rooms_program.specs.declared.words.Command.TheVariants.{Schedule}
+use Rattle.command_words.specs.declared.command.Command.TheVariants.{Schedule}
 use Rattle.rooms_program.specs.declared.status.Status.{Status}
 use Rattle.rooms_program.specs.declared.status.Status.TheVariants as status
 

@@ -5,7 +5,7 @@ use Rattle.room_script.specs.Breaks.{BreaksAt}
 use Rattle.room_script.specs.Trials.{IsTrial}
 use Rattle.rooms_program.specs.Commands.{Refuses}
 use Rattle.rooms_program.specs.Texts.{most_text}
-use Rattle.rooms_program.specs.declared.words.Command.TheVariants.{Trial}
+use Rattle.command_words.specs.declared.command.Command.TheVariants.{Trial}
 use Rattle.rooms_program.specs.declared.status.Status.{Status}
 use Rattle.rooms_program.specs.declared.status.Status.TheVariants as status
 

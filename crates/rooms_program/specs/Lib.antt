@@ -1,8 +1,9 @@
 pub mod Commands
 pub mod Compact
+pub mod Limits
 pub mod Runs
 pub mod Schedules
+pub mod Sizes
 pub mod Statuses
 pub mod Texts
 pub mod Trials
-pub mod Words

@@ -1,19 +1,22 @@
 //! The program: its words name a command, which reads standard input and writes standard output. The
-//! workers of `compact` and the callers of a trial are held by nobody.
+//! workers of `compact` and `mark` and the callers of a trial are held by nobody.
 #![tactic(auto)]
 
+mod check;
 mod compact;
+mod crew;
+mod make;
+mod mark;
 mod notes;
 mod perform;
 mod run;
 mod schedule;
 mod status;
 mod trial;
-mod words;
 
 use room_io::{StdSink, StdSource};
 pub use room_trial::{CallerEnd, trial_caller};
-pub use run::{run, schedule_run};
+pub use run::{check_run, make_run, run, schedule_run};
 pub use status::Status;
 use std::process::ExitCode;
 use work_pool::OpenGate;

@@ -1,29 +1,50 @@
 //! Performing a command: the input is read, its output made whole in memory, and then written.
-ghost use Rattle.std.specs.Prelude.{◌≡◌, ◌⊎◌, ◌+◌, ◌≤◌, take, Err, IfOk, IfErr, IfSome};
+ghost use Rattle.std.specs.Prelude.{◌≡◌, ◌⊎◌, ◌+◌, ◌≤◌, ◌^◌, take, Err, IfOk, IfErr, IfSome};
 ghost use Rattle.std.specs.Io.KnownBytes.{Appends};
+ghost use Rattle.std.specs.Bool.{OnTrue, OnFalse};
 ghost use Rattle.room_io.specs.Causes.{Rose, AppendsPrefix};
-ghost use Rattle.rooms_program.specs.Commands.{most_bytes, Accepts, IsOutput, Refuses};
-ghost use Rattle.rooms_program.specs.Words.{HasCrew, Is};
-ghost use Rattle.rooms_program.specs.Runs.{WasRead, IsRefusal, Leaves};
+ghost use Rattle.rooms_program.specs.Commands.{Reads, most_bytes, Accepts, IsOutput, Refuses};
+ghost use Rattle.rooms_program.specs.Limits.{Is, IsWithin};
+ghost use Rattle.rooms_program.specs.Runs.{WasRead, IsRefusal, Leaves, LeavesMade};
 
+use crate::check::checked;
 use crate::compact::compacted;
+use crate::make::made_bytes;
+use crate::mark::{made_marked, read_marked};
 use crate::schedule::{MOST_TEXT, scheduled};
 use crate::status::Status;
 use crate::trial::tried;
-use crate::words::Command;
+use command_words::{Command, Made};
 use room_io::{ReadFail, Sink, Source, read_up_to, write_whole};
 use std::alloc::Global;
 use std::sync::Wait;
 use std::thread::Threads;
 use work_pool::Gate;
 
+/// The most bytes of an image.
+const MOST_IMAGE: usize = 34_078_744;
+
+/// The most bytes of an input that can be accepted.
 fn most(command: Command) -> usize
     ensures value { result ≡ most_bytes command }
     ensures small { result ≤ 34078744 }
 {
     match command {
-        Command::Compact(_) => 34_078_744,
-        Command::Schedule | Command::Trial => MOST_TEXT,
+        Command::Compact(_) | Command::Mark(_, _) | Command::Check => MOST_IMAGE,
+        Command::Make(_) => 0,
+        Command::Trial | Command::Schedule => MOST_TEXT,
+    }
+}
+
+/// Whether a command reads its source; one that makes its image up does not.
+fn reads(command: Command) -> bool
+    ensures yes { OnTrue result (Reads command) }
+    ensures no_ { OnFalse result (¬ Reads command) }
+{
+    match command {
+        Command::Make(_) | Command::Mark(_, Some(_)) => false,
+        Command::Mark(_, None) => true,
+        Command::Compact(_) | Command::Check | Command::Trial | Command::Schedule => true,
     }
 }
 
@@ -35,16 +56,20 @@ fn output<R: Threads + Wait + Sync, G: Gate + Sync>(
     bytes: Vec<u8>,
     gate: &G,
 ) -> Result<Vec<u8>, Status>
-    requires { HasCrew command }
+    requires { IsWithin command }
     ensures output { IfOk result (λ output. IsOutput command bytes.items output.items) }
     ensures why { IfErr result (λ why. (why ≡ Status.Memory) ⊎ (IsRefusal why × Refuses command bytes.items why)) }
     ensures accepts { Accepts command bytes.items → IfErr result (λ why. why ≡ Status.Memory) }
     ensures refuses { (why : Status) → Refuses command bytes.items why → (result ≡ Err why) ⊎ (result ≡ Err Status.Memory) }
 {
     match command {
-        Command::Compact(crew) => compacted(rt, alloc, &crew, bytes, gate),
-        Command::Schedule => scheduled(alloc, &bytes),
+        Command::Compact(options) => compacted(rt, alloc, &options, bytes, gate),
+        Command::Mark(options, None) => read_marked(rt, alloc, &options, bytes, gate),
+        Command::Mark(options, Some(made)) => made_marked(rt, alloc, &options, made, gate),
+        Command::Check => checked(alloc, &bytes),
+        Command::Make(made) => made_bytes(alloc, made),
         Command::Trial => tried(rt, alloc, &bytes, gate),
+        Command::Schedule => scheduled(alloc, &bytes),
     }
 }
 
@@ -58,6 +83,20 @@ fn read_input<S: Source>(alloc: Global, command: Command, source: &mut S) -> Res
         Ok(bytes) => Ok(bytes),
         Err(ReadFail::ReadFault) => Err(Status::ReadFault),
         Err(ReadFail::Memory) => Err(Status::Memory),
+    }
+}
+
+/// The input of a command: none of a command that does not read.
+fn input<S: Source>(alloc: Global, command: Command, source: &mut S) -> Result<Vec<u8>, Status>
+    ensures read { Reads command → IfOk result (λ bytes. WasRead (most_bytes command) (S.left source.old) (S.left source.new) bytes.items) }
+    ensures known { Reads command → IfOk result (λ bytes. IfSome (S.left source.old) (λ input. bytes.items ≡ take (most_bytes command + 1) input)) }
+    ensures unread { ¬ Reads command → source.new ≡ source.old }
+    ensures why { IfErr result (λ why. (why ≡ Status.Memory) ⊎ ((why ≡ Status.ReadFault) × Reads command × Rose (S.faults source.old) (S.faults source.new))) }
+{
+    if reads(command) {
+        read_input(alloc, command, source)
+    } else {
+        Ok(Vec::new(alloc))
     }
 }
 
@@ -86,8 +125,8 @@ fn write_made<K: Sink>(sink: &mut K, made: Result<Vec<u8>, Status>) -> Status
     }
 }
 
-/// Reads the input of a command and writes an output of it. It waits for the workers
-/// of `compact` and the callers of a trial alone.
+/// Reads the input of a command, if it reads, and writes an output of it. It waits for the workers
+/// of `compact` and `mark` and the callers of a trial alone.
 pub fn perform<R: Threads + Wait + Sync, S: Source, K: Sink, G: Gate + Sync>(
     rt: &R,
     alloc: Global,
@@ -96,10 +135,10 @@ pub fn perform<R: Threads + Wait + Sync, S: Source, K: Sink, G: Gate + Sync>(
     sink: &mut K,
     gate: &G,
 ) -> Status
-    requires { HasCrew command }
+    requires { IsWithin command }
     ensures { Leaves S.left S.faults K.written K.faults (Is command) source.old source.new sink.old sink.new result }
 {
-    let bytes = match read_input(alloc, command, source) {
+    let bytes = match input(alloc, command, source) {
         Ok(bytes) => bytes,
         Err(status) => return status,
     };
@@ -116,5 +155,26 @@ pub fn perform_schedule<S: Source, K: Sink>(alloc: Global, source: &mut S, sink:
         Err(status) => return status,
     };
     let made = scheduled(alloc, &bytes);
+    write_made(sink, made)
+}
+
+/// Reads an image and writes how large it is. It waits for nobody.
+pub fn perform_check<S: Source, K: Sink>(alloc: Global, source: &mut S, sink: &mut K) -> Status
+    ensures { Leaves S.left S.faults K.written K.faults (Is Command.Check) source.old source.new sink.old sink.new result }
+{
+    let bytes = match read_input(alloc, Command::Check, source) {
+        Ok(bytes) => bytes,
+        Err(status) => return status,
+    };
+    let made = checked(alloc, &bytes);
+    write_made(sink, made)
+}
+
+/// Writes the bytes of an image that is made up. It waits for nobody.
+pub fn perform_make<K: Sink>(alloc: Global, wanted: Made, sink: &mut K) -> Status
+    requires { wanted.objects ≤ 2 ^ 20 }
+    ensures { LeavesMade K.written K.faults (Command.Make wanted) sink.old sink.new result }
+{
+    let made = made_bytes(alloc, wanted);
     write_made(sink, made)
 }

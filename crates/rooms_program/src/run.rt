@@ -1,12 +1,13 @@
 //! The top call.
-ghost use Rattle.std.specs.Prelude.{map, string_bytes};
-ghost use Rattle.rooms_program.specs.Words.{Is, Names};
-ghost use Rattle.rooms_program.specs.Runs.{Leaves, LeavesNote};
+ghost use Rattle.std.specs.Prelude.{◌≤◌, ◌^◌, map, string_bytes};
+ghost use Rattle.command_words.specs.Words.{Names};
+ghost use Rattle.rooms_program.specs.Limits.{Is};
+ghost use Rattle.rooms_program.specs.Runs.{Leaves, LeavesMade, LeavesNote};
 
 use crate::notes::give_note;
-use crate::perform::{perform, perform_schedule};
+use crate::perform::{perform, perform_check, perform_make, perform_schedule};
 use crate::status::Status;
-use crate::words::{Command, named_command};
+use command_words::{Command, Made, named_command};
 use room_io::{Sink, Source};
 use std::alloc::Global;
 use std::sync::Wait;
@@ -14,19 +15,26 @@ use std::thread::Threads;
 use work_pool::Gate;
 
 /// Performs the command that the words name, from the source to the sink, and leaves a note of one
-/// line for a status other than `Good`. It waits for the workers of `compact` and the callers of a
-/// trial alone.
+/// line for a status other than `Good`. It waits for the workers of `compact` and `mark` and the
+/// callers of a trial alone.
 ///
 /// `compact` reads an image and writes its slide: the live objects alone, in order, moved down
-/// without gaps. A crew does it, of 1 worker over 64 blocks or of as many as `--workers N` and
-/// `--blocks B` after it say, in this order; what is written is the same for each crew. Before each
-/// try to take an object, and again to take a piece that is to be slid, the gate is asked with the
-/// worker's number and how often it had asked for one. `schedule` reads a text of acts and prints the run of the protocol on them.
+/// without gaps. `mark` reads an image, marks and slides it, and prints six lines: its objects, how
+/// many of them are live, its words, the words of its slide, its roots and the fold of its slide.
+/// `mark OBJECTS SEED` does so with an image that is made up. The crew of both has 1 worker over 64
+/// blocks that are split, or as `--workers`, `--blocks` and `--layout` say; what is written is the
+/// same for each crew. Before each try to take an object, and again to take a piece that is to be
+/// slid, the gate is asked with the worker's number and how often it had asked for one.
+///
+/// `check` reads an image and prints how large it is. `make OBJECTS SEED` writes the bytes of an image
+/// that is made up. `schedule` reads a text of acts and prints the run of the protocol on them.
 /// `trial` reads a text of callers' scripts, has each caller make the calls of its script on one
 /// bay, in a thread of its own where one can be made, and prints their one history, how many lines
 /// each caller had answered, and what is left in the bay. Before line i of caller c the gate is
-/// asked with c and i, both counted from 0. The output is complete in memory before the first
-/// write.
+/// asked with c and i, both counted from 0.
+///
+/// `make`, and `mark` with operands, leave the source as it was. The output is complete in memory
+/// before the first write.
 ///
 /// # Refusals, in their order
 ///
@@ -38,7 +46,7 @@ use work_pool::Gate;
 ///   its rules.
 /// - `Act`: exactly where the core refuses an act, with the first one.
 /// - `WriteFault`: only where a write of this call failed; the sink gained a prefix of the output.
-/// - `Memory`: for want of memory, at any point; the sink gained nothing.
+/// - `Memory`: for want of memory, at any point, also of the words; the sink gained nothing.
 pub fn run<R: Threads + Wait + Sync, S: Source, K: Sink, N: Sink, G: Gate + Sync>(
     rt: &R,
     alloc: Global,
@@ -57,7 +65,7 @@ pub fn run<R: Threads + Wait + Sync, S: Source, K: Sink, N: Sink, G: Gate + Sync
 }
 
 /// Performs the command that the words name, if they name one.
-#[tactic(auto, using(crate::proofs::Naming::named_crew))]
+#[tactic(auto, using(crate::proofs::Limits::named_within))]
 fn answer<R: Threads + Wait + Sync, S: Source, K: Sink, G: Gate + Sync>(
     rt: &R,
     alloc: Global,
@@ -68,9 +76,10 @@ fn answer<R: Threads + Wait + Sync, S: Source, K: Sink, G: Gate + Sync>(
 ) -> Status
     ensures { Leaves S.left S.faults K.written K.faults (Names (map string_bytes words.now)) source.old source.new sink.old sink.new result }
 {
-    match named_command(words) {
-        Some(command) => perform(rt, alloc, command, source, sink, gate),
-        None => Status::Words,
+    match named_command(alloc, words) {
+        Ok(Some(command)) => perform(rt, alloc, command, source, sink, gate),
+        Ok(None) => Status::Words,
+        Err(_) => Status::Memory,
     }
 }
 
@@ -86,6 +95,41 @@ pub fn schedule_run<S: Source, K: Sink, N: Sink>(
     ensures note { LeavesNote N.written N.faults notes.old notes.new result }
 {
     let status = perform_schedule(alloc, source, sink);
+    give_note(notes, status);
+    status
+}
+
+/// Performs `check` from the source to the sink, and leaves a note as `run` does. It waits for nobody.
+/// Its refusals are `Image`, `ReadFault`, `WriteFault` and `Memory`, as those of `run`.
+pub fn check_run<S: Source, K: Sink, N: Sink>(
+    alloc: Global,
+    source: &mut S,
+    sink: &mut K,
+    notes: &mut N,
+) -> Status
+    ensures leaves { Leaves S.left S.faults K.written K.faults (Is Command.Check) source.old source.new sink.old sink.new result }
+    ensures note { LeavesNote N.written N.faults notes.old notes.new result }
+{
+    let status = perform_check(alloc, source, sink);
+    give_note(notes, status);
+    status
+}
+
+/// Performs `make` for this many objects, at most 2^20, and this seed: writes the bytes of the image to
+/// the sink, and leaves a note as `run` does. It waits for nobody. Its refusals are `WriteFault` and
+/// `Memory`, as those of `run`.
+pub fn make_run<K: Sink, N: Sink>(
+    alloc: Global,
+    objects: u32,
+    seed: u64,
+    sink: &mut K,
+    notes: &mut N,
+) -> Status
+    requires { objects ≤ 2 ^ 20 }
+    ensures leaves { LeavesMade K.written K.faults (Command.Make (record { objects = objects; seed = seed })) sink.old sink.new result }
+    ensures note { LeavesNote N.written N.faults notes.old notes.new result }
+{
+    let status = perform_make(alloc, Made { objects, seed }, sink);
     give_note(notes, status);
     status
 }

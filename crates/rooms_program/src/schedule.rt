@@ -4,7 +4,7 @@ ghost use Rattle.rooms_program.specs.Commands.{Accepts, IsOutput, Refuses};
 ghost use Rattle.rooms_program.specs.Runs.{IsRefusal};
 
 use crate::status::Status;
-use crate::words::Command;
+use command_words::Command;
 use room_core::{RunFault, run};
 use room_script::{ScriptFault, print_run, read_schedule};
 use std::alloc::Global;

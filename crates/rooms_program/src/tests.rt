@@ -1,6 +1,4 @@
-use crate::words::{Command, named_command};
-use crate::{Status, run, schedule_run};
-use bay_core::Layout;
+use crate::{Status, check_run, make_run, run, schedule_run};
 use crossbeam_utils::Backoff;
 use image_core::{ImageFault, ImageKind};
 use image_reader::{make_image, write_image};
@@ -12,7 +10,7 @@ use std::sync::Wait;
 use std::sync::atomic::{AtomicU64, Ordering};
 use std::test::Fail;
 use std::thread::Threads;
-use work_pool::{Crew, Gate, OpenGate};
+use work_pool::{Gate, OpenGate};
 
 /// The bytes of an image: its magic, and then these numbers.
 fn image(alloc: Global, numbers: &[u64]) -> Result<Vec<u8>, AllocError> {
@@ -111,10 +109,13 @@ fn compact_keeps_the_live_objects(rt: HostRuntime) -> Result<(), Fail> {
         (&[4, 0, 4294967297, 3, 4294967297, 1], &[0, 0]),
         (&[2, 2, 21474836481, 1, 0, 1], &[2, 2, 21474836481, 1, 0, 1]),
     ];
-    let crews: [&[&str]; 3] = [
+    let crews: [&[&str]; 6] = [
         &["compact"],
         &["compact", "--workers", "4"],
         &["compact", "--workers", "4", "--blocks", "1"],
+        &["--workers=2", "compact"],
+        &["compact", "--blocks", "1", "--workers", "2"],
+        &["--layout=paged", "compact", "--blocks", "2"],
     ];
     for (input, output) in cases {
         let input = image(alloc, input)?;
@@ -198,26 +199,25 @@ fn a_failed_read_leaves_a_note(rt: HostRuntime) -> Result<(), Fail> {
 fn other_words_are_refused_and_nothing_is_read(rt: HostRuntime) -> Result<(), Fail> {
     let alloc = rt.alloc();
     let bytes = image(alloc, &FIVE_WORDS)?;
-    let cases: [&[&str]; 19] = [
+    let cases: [&[&str]; 18] = [
         &[],
         &["--help"],
         &["schedul"],
         &["trial", "1"],
         &["schedule", "--workers", "2"],
+        &["check", "--workers", "1"],
+        &["mark", "5"],
+        &["make"],
+        &["make", "1048577", "0"],
         &["compact", "extra"],
         &["compact", "--workers"],
-        &["compact", "--workers", ""],
+        &["compact", "--workers="],
         &["compact", "--workers", "0"],
         &["compact", "--workers", "02"],
         &["compact", "--workers", "17"],
-        &["compact", "--workers", "4294967297"],
-        &["compact", "--workers=2"],
-        &["compact", "--blocks", "2"],
-        &["compact", "--blocks", "2", "--workers", "2"],
-        &["compact", "--workers", "2", "--blocks", "0"],
-        &["compact", "--workers", "2", "--blocks", "16385"],
+        &["compact", "--blocks", "16385"],
+        &["compact", "--layout", "paged", "--blocks", "1"],
         &["compact", "--workers", "2", "--workers", "2"],
-        &["compact", "--workers", "2", "--blocks", "2", "extra"],
     ];
     for words in cases {
         let ended = Attempt::new(words, &bytes).ended(&rt, alloc)?;
@@ -229,28 +229,205 @@ fn other_words_are_refused_and_nothing_is_read(rt: HostRuntime) -> Result<(), Fa
     Ok(())
 }
 
+const ONE_OBJECT: [u64; 7] = [4, 1, 65538, 1, 1, 4483995, 1];
+
 #[test]
-fn the_words_tell_the_crew(rt: HostRuntime) -> Result<(), Fail> {
+fn make_writes_the_image_and_reads_nothing(rt: HostRuntime) -> Result<(), Fail> {
     let alloc = rt.alloc();
-    let cases: [(&[&str], u32, u32); 4] = [
-        (&["compact"], 1, 64),
-        (&["compact", "--workers", "3"], 3, 64),
-        (&["compact", "--workers", "16", "--blocks", "1"], 16, 1),
+    let cases: [(u32, u64, &[&str], &[u64]); 2] = [
+        (1, 1, &["make", "1", "1"], &ONE_OBJECT),
+        (0, 7, &["make", "0", "7"], &[0, 0]),
+    ];
+    for (objects, seed, words, output) in cases {
+        let output = image(alloc, output)?;
+        let mut attempt = Attempt::new(words, b"unread");
+        attempt.failing_read = Some(0);
+        let ended = attempt.ended(&rt, alloc)?;
+        assert_eq!(rt; ended.status, Status::Good);
+        assert_eq!(rt; ended.sink.written(), output.as_slice());
+        assert_eq!(rt; ended.source.left(), b"unread".as_slice());
+        assert_eq!(rt; ended.source.faults(), 0);
+        let mut sink = MemSink::new(alloc, 1000, Vec::new(alloc), 24)?;
+        let mut notes = MemSink::new(alloc, 100, Vec::new(alloc), 7)?;
+        let status = make_run(alloc, objects, seed, &mut sink, &mut notes);
+        assert_eq!(rt; status, Status::Good);
+        assert_eq!(rt; sink.written(), output.as_slice());
+        assert!(rt; notes.written().is_empty());
+    }
+    Ok(())
+}
+
+#[test]
+fn a_make_that_cannot_write_leaves_a_note(rt: HostRuntime) -> Result<(), Fail> {
+    let alloc = rt.alloc();
+    let mut sink = MemSink::new(alloc, 24, Vec::new(alloc), 24)?;
+    let mut notes = MemSink::new(alloc, 100, Vec::new(alloc), 7)?;
+    let status = make_run(alloc, 1, 1, &mut sink, &mut notes);
+    assert_eq!(rt; status, Status::WriteFault);
+    assert_eq!(rt; sink.written(), image(alloc, &[4, 1])?.as_slice());
+    assert_eq!(rt; notes.written(), b"write fault\n".as_slice());
+    Ok(())
+}
+
+/// Runs `check` on bytes, by its words and by its own call: how both ended.
+fn checked<R: Threads + Wait + Sync>(
+    rt: &R,
+    alloc: Global,
+    bytes: &[u8],
+) -> Result<[Ended; 2], AllocError> {
+    let by_words = Attempt::new(&["check"], bytes).ended(rt, alloc)?;
+    let mut source = MemSource::new(Vec::from_slice(alloc, bytes)?, Vec::new(alloc), 1000);
+    let mut sink = MemSink::new(alloc, 1000, Vec::new(alloc), 24)?;
+    let mut notes = MemSink::new(alloc, 100, Vec::new(alloc), 7)?;
+    let status = check_run(alloc, &mut source, &mut sink, &mut notes);
+    let by_call = Ended {
+        status,
+        sink,
+        notes,
+        source,
+    };
+    Ok([by_words, by_call])
+}
+
+#[test]
+fn check_tells_how_large_an_image_is(rt: HostRuntime) -> Result<(), Fail> {
+    let alloc = rt.alloc();
+    let cases: [(&[u64], &str); 3] = [
+        (&ONE_OBJECT, "ok words 4 roots 1 objects 1\n"),
+        (&FIVE_WORDS, "ok words 5 roots 1 objects 3\n"),
+        (&[0, 0], "ok words 0 roots 0 objects 0\n"),
+    ];
+    for (input, output) in cases {
+        for ended in checked(&rt, alloc, &image(alloc, input)?)? {
+            assert_eq!(rt; ended.status, Status::Good);
+            assert_eq!(rt; ended.sink.written(), output.as_bytes());
+            assert!(rt; ended.notes.written().is_empty());
+        }
+    }
+    Ok(())
+}
+
+#[test]
+fn check_refuses_what_is_no_image(rt: HostRuntime) -> Result<(), Fail> {
+    let alloc = rt.alloc();
+    let fault = ImageFault::new(ImageKind::BadRef, 1, 3);
+    let bytes = image(alloc, &[3, 0, 65537, 3, 0])?;
+    for ended in checked(&rt, alloc, &bytes)? {
+        assert_eq!(rt; ended.status, Status::Image(fault));
+        assert!(rt; ended.sink.written().is_empty());
+        assert_eq!(rt;
+            ended.notes.written(),
+            b"image BadRef place 1 value 3\n".as_slice()
+        );
+    }
+    Ok(())
+}
+
+const ONE_OBJECT_MARKED: &str = "objects 1\nlive 1\nwords 4\nkept 4\nroots 1\nfold 60664753896\n";
+
+#[test]
+fn mark_prints_six_lines(rt: HostRuntime) -> Result<(), Fail> {
+    let alloc = rt.alloc();
+    let cases: [(&[&str], &[u64], &str); 4] = [
+        (&["mark"], &ONE_OBJECT, ONE_OBJECT_MARKED),
         (
-            &["compact", "--workers", "1", "--blocks", "16384"],
-            1,
-            16384,
+            &["mark"],
+            &FIVE_WORDS,
+            "objects 3\nlive 2\nwords 5\nkept 3\nroots 1\nfold 896857890914211\n",
+        ),
+        (
+            &["mark", "--workers", "4"],
+            &[0, 0],
+            "objects 0\nlive 0\nwords 0\nkept 0\nroots 0\nfold 0\n",
+        ),
+        (&["mark", "--layout=paged"], &ONE_OBJECT, ONE_OBJECT_MARKED),
+    ];
+    for (words, input, output) in cases {
+        let input = image(alloc, input)?;
+        let ended = Attempt::new(words, &input).ended(&rt, alloc)?;
+        assert_eq!(rt; ended.status, Status::Good);
+        assert_eq!(rt; ended.sink.written(), output.as_bytes());
+        assert!(rt; ended.source.left().is_empty());
+        assert!(rt; ended.notes.written().is_empty());
+    }
+    Ok(())
+}
+
+#[test]
+fn mark_refuses_what_is_no_image(rt: HostRuntime) -> Result<(), Fail> {
+    let alloc = rt.alloc();
+    let mut short = image(alloc, &[0, 0])?;
+    short.truncate(23);
+    let ended = Attempt::new(&["mark"], &short).ended(&rt, alloc)?;
+    assert_eq!(rt;
+        ended.status,
+        Status::Image(ImageFault::new(ImageKind::Short, 23, 24))
+    );
+    assert!(rt; ended.sink.written().is_empty());
+    assert_eq!(rt;
+        ended.notes.written(),
+        b"image Short place 23 value 24\n".as_slice()
+    );
+    Ok(())
+}
+
+#[test]
+fn mark_of_a_made_image_reads_nothing(rt: HostRuntime) -> Result<(), Fail> {
+    let alloc = rt.alloc();
+    // the lines of the larger image are those of a model in another language
+    let large =
+        "objects 100000\nlive 58117\nwords 287520\nkept 166937\nroots 16\nfold 8342302079909005549\n";
+    let cases: [(&[&str], &str); 3] = [
+        (&["mark", "1", "1"], ONE_OBJECT_MARKED),
+        (&["mark", "100000", "1"], large),
+        (
+            &["mark", "--workers", "4", "--blocks", "2", "100000", "1"],
+            large,
         ),
     ];
-    for (words, workers, blocks) in cases {
-        let crew = Crew {
-            workers,
-            blocks,
-            layout: Layout::Split,
-            draws: 1 << 48,
-        };
-        let named = named_command(&spelled(alloc, words)?);
-        assert_eq!(rt; named, Some(Command::Compact(crew)));
+    for (words, output) in cases {
+        let mut attempt = Attempt::new(words, b"unread");
+        attempt.failing_read = Some(0);
+        let ended = attempt.ended(&rt, alloc)?;
+        assert_eq!(rt; ended.status, Status::Good);
+        assert_eq!(rt; ended.sink.written(), output.as_bytes());
+        assert_eq!(rt; ended.source.left(), b"unread".as_slice());
+        assert_eq!(rt; ended.source.faults(), 0);
+    }
+    Ok(())
+}
+
+#[test]
+fn crews_compact_a_large_image_alike(rt: HostRuntime) -> Result<(), Fail> {
+    let alloc = rt.alloc();
+    let mut made = Attempt::new(&["make", "100000", "1"], b"");
+    made.room = 4_000_000;
+    let made = made.ended(&rt, alloc)?;
+    assert_eq!(rt; made.status, Status::Good);
+    let mut alone = Attempt::new(&["compact"], made.sink.written());
+    alone.room = 4_000_000;
+    let alone = alone.ended(&rt, alloc)?;
+    assert_eq!(rt; alone.status, Status::Good);
+    // 24 bytes, and 8 for each of 166937 words and 16 roots
+    assert_eq!(rt; alone.sink.written().len(), 1335648);
+    let crews: [&[&str]; 2] = [
+        &["compact", "--workers", "4", "--blocks", "2"],
+        &[
+            "compact",
+            "--workers",
+            "4",
+            "--blocks",
+            "2",
+            "--layout",
+            "paged",
+        ],
+    ];
+    for words in crews {
+        let mut together = Attempt::new(words, made.sink.written());
+        together.room = 4_000_000;
+        let together = together.ended(&rt, alloc)?;
+        assert_eq!(rt; together.status, Status::Good);
+        assert!(rt; together.sink.written() == alone.sink.written());
     }
     Ok(())
 }
@@ -367,6 +544,8 @@ fn trial_prints_what_its_callers_did(rt: HostRuntime) -> Result<(), Fail> {
         "trial 1\nlayout split\nblocks 1\ndraws 100\ncaller\npop\npush 5\npush 5\npop\npop\npop\n";
     let spent = "trial 1\nlayout split\nblocks 1\ndraws 2\ncaller\npush 1\npop\npop\n";
     let idle = "trial 1\nlayout split\nblocks 1\ndraws 1\ncaller\n";
+    let paged = "trial 1\nlayout paged\nblocks 2\ndraws 100\ncaller\npush 5\npop\n";
+    let overflow = "trial 1\nlayout paged\nblocks 2\ndraws 1\ncaller\npush 5\n";
     let cases = [
         (
             pops,
@@ -377,6 +556,11 @@ fn trial_prints_what_its_callers_did(rt: HostRuntime) -> Result<(), Fail> {
             "1 4294967296 0 push 1 ok\n2 4294967295 0 pop - 1\ncaller 0 answered 2 of 3\nstack\nqueue\n",
         ),
         (idle, "caller 0 answered 0 of 0\nstack\nqueue\n"),
+        (
+            paged,
+            "2 4294967296 0 push 5 ok\n3 4294967295 0 pop - 5\ncaller 0 answered 2 of 2\nstack\nqueue\n",
+        ),
+        (overflow, "caller 0 answered 0 of 1\nstack\nqueue\n"),
     ];
     for (text, output) in cases {
         let ended = Attempt::new(&["trial"], text.as_bytes()).ended(&rt, alloc)?;
@@ -399,9 +583,9 @@ fn trial_refuses_texts(rt: HostRuntime) -> Result<(), Fail> {
             "script line 2\n",
         ),
         (
-            b"trial 1\nlayout paged\n".as_slice(),
-            Status::Script(2),
-            "script line 2\n",
+            b"trial 1\nlayout paged\nblocks 1\n".as_slice(),
+            Status::Script(3),
+            "script line 3\n",
         ),
         (long.as_slice(), Status::TooLong, "text too long\n"),
     ];

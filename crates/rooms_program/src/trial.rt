@@ -5,7 +5,7 @@ ghost use Rattle.rooms_program.specs.Runs.{IsRefusal};
 
 use crate::schedule::MOST_TEXT;
 use crate::status::Status;
-use crate::words::Command;
+use command_words::Command;
 use room_script::{ScriptFault, read_trial};
 use room_trial::trial;
 use std::alloc::Global;
