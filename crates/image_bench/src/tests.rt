@@ -19,7 +19,8 @@ use work_pool::{Crew, Gate, OpenGate};
 // A crew of so many workers over so many blocks.
 fn crew_of(workers: u32, layout: Layout, blocks: u32, draws: u64) -> Crew
     requires workers { (1 ≤ workers) × (workers ≤ 16) }
-    requires blocks { (2 ≤ blocks) × (blocks ≤ 16384) }
+    requires blocks { (1 ≤ blocks) × (blocks ≤ 16384) }
+    requires paged { layout ≡ Layout.Paged → 2 ≤ blocks }
     requires draws { (1 ≤ draws) × (draws ≤ 2 ^ 48) }
     ensures { IsCrew result }
 {
@@ -55,6 +56,20 @@ fn compacts_alike<R: Threads + Wait + Sync + Abort, G: Gate + Sync>(
 fn every_crew_makes_what_one_thread_makes(rt: HostRuntime) -> Result<(), Fail> {
     let alloc = rt.alloc();
     let image = make_image(alloc, 100_000, 1)?;
+    compacts_alike(
+        &rt,
+        alloc,
+        &image,
+        crew_of(1, Layout::Split, 1, 1 << 24),
+        &OpenGate,
+    )?;
+    compacts_alike(
+        &rt,
+        alloc,
+        &image,
+        crew_of(4, Layout::Split, 1, 1 << 24),
+        &OpenGate,
+    )?;
     compacts_alike(
         &rt,
         alloc,
