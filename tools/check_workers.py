@@ -9,81 +9,11 @@ The images are made up by rule, as the crate image_reader makes them.
 """
 import argparse
 import os
-import struct
 import subprocess
 import sys
 import time
 
-MAGIC = b"ROOMIMG1"
-
-
-def draws(seed):
-    """The numbers that a seed gives, one after the other."""
-    x = seed % 2**31
-    while True:
-        x = (1103515245 * x + 12345) % 2**31
-        yield x // 256
-
-
-def make(objects, seed):
-    """The words and the roots of the image that a seed makes up."""
-    drawn = draws(seed)
-    shapes = []
-    for _ in range(objects):
-        v = next(drawn)
-        references = v % 4
-        shapes.append((references, 0 if references == 3 else v // 4 % 2))
-    places = []
-    place = 0
-    for references, data in shapes:
-        places.append(place)
-        place += 1 + references + data
-    words = []
-    for tag, (references, data) in enumerate(shapes):
-        words.append(references | data << 16 | tag << 32)
-        for _ in range(references):
-            k = next(drawn) % (objects + 1)
-            words.append(0 if k == objects else 1 + places[k])
-        for _ in range(data):
-            words.append(next(drawn))
-    roots = [1 + places[next(drawn) % objects] for _ in range(min(objects, 16))]
-    return words, roots
-
-
-def image_bytes(words, roots):
-    """The bytes of an image."""
-    numbers = [len(words), len(roots), *words, *roots]
-    return MAGIC + struct.pack(f"<{len(numbers)}Q", *numbers)
-
-
-def size_of(header):
-    """How many words an object has."""
-    return 1 + (header & 0xFFFF) + (header >> 16 & 0xFFFF)
-
-
-def slide(words, roots):
-    """The words and the roots of the image with its live objects alone, in order and without gaps."""
-    live = set()
-    waiting = [root - 1 for root in roots if root]
-    while waiting:
-        head = waiting.pop()
-        if head not in live:
-            live.add(head)
-            references = words[head + 1 : head + 1 + (words[head] & 0xFFFF)]
-            waiting.extend(word - 1 for word in references if word)
-    new = {}
-    place = 0
-    for head in sorted(live):
-        new[head + 1] = 1 + place
-        place += size_of(words[head])
-    new[0] = 0
-    slid = []
-    for head in sorted(live):
-        references = words[head] & 0xFFFF
-        slid.append(words[head])
-        slid.extend(new[word] for word in words[head + 1 : head + 1 + references])
-        slid.extend(words[head + 1 + references : head + size_of(words[head])])
-    return slid, [new[root] for root in roots]
+from model import image_bytes, make, slide
 
 
 def compact(program, options, image):

@@ -16,17 +16,6 @@ use Rattle.bay_rule.specs.Shows.{Shows}
 use Rattle.bay_rule.specs.Keeping.Spending.{queue_gains}
 use Rattle.bay_rule.proofs.Resting.{has_history}
 
-stored_few : (op : Op) (b : Bool) → enq_stored op b ≤ 1
-stored_few Push b = omega arith
-stored_few Pop b = omega arith
-stored_few Enq true = omega arith
-stored_few Enq false = omega arith
-stored_few Deq b = omega arith
-
-enqs_few : (h : List Noted) → enqs_in h ≤ length h
-enqs_few [] = omega arith
-enqs_few (n ∷ h) = omega (arith, stored_few n.op n.stored, enqs_few h)
-
 -- each item that is or was in the queue was stored
 came_in : (h : List Noted) → (after h).taken + length (after h).queue ≤ enqs_in h
 came_in [] = omega arith
@@ -78,5 +67,5 @@ pub few_came : (x : BayUse) (h : List Noted) (words : List ℕ) (views : List Ba
 few_came x h words views gate k =
     let all = all_below (length views) h (has_history x h words views gate k).others in
     let each : (c : ℕ) → enqs_in (own c h) ≤ MOST_DRAWS =
-    λ c. omega (arith, enqs_few (own c h), ap length (k.each c).mine, (k.each c).limited) in
+    λ c. omega (arith, ap enqs_in (k.each c).mine, (k.each c).used_for.enqs, (k.each c).used_for.limited) in
     omega (arith, came_in h, all, few_below (length views) h each, k.few)

@@ -18,9 +18,11 @@ option_rule id = record (new_rule id) { long = Some id }
 abbrev pub bare : Shape → Shape
 bare s = record s { no_binary_name = true; disable_help_flag = true; disable_version_flag = true }
 
+-- a command of this name in which each word counts
 abbrev pub bare_app : List ℕ → App
 bare_app name = on_top bare (new_app name)
 
+-- the command with its options and operands
 abbrev pub words_app : App
 words_app =
     with_rule (with_rule (with_rule (with_rule (with_rule (with_rule (bare_app (codes "rooms"))

@@ -14,6 +14,7 @@ IsRestForm rest _ = ⊥
 abbrev pub IsOptionForm : List ℕ → List ℕ → Form → Type 0
 IsOptionForm word option form = (rest : List ℕ) × (word ≡ option ++ rest) × IsRestForm rest form
 
+-- the word is of this form
 abbrev pub IsForm : List ℕ → Form → Type 0
 IsForm word Plain = IsPlain word
 IsForm word Joined = (name : Name) × IsOptionForm word (word_of name) Joined

@@ -11,7 +11,11 @@ use clap::{Arg, ArgMatches, Command, Error};
 use std::alloc::{AllocError, Global};
 
 /// The texts that words give which are options with their values, and plain words. `None` where an
-/// option is given twice, or a word stands behind the operands. `AllocError` where memory runs out.
+/// option is given twice, or a word stands behind the operands.
+///
+/// # Errors
+///
+/// Want of memory alone.
 pub fn assigned<'a>(alloc: Global, words: &'a [String]) -> Result<Option<Texts<'a>>, AllocError>
     ensures { (parts : List Part) → AreParts (map string_bytes words.entry.now) parts
         → IfOk result (λ found. MatchOption found (¬ AreAssignable parts) (Assigns parts)) }

@@ -1,3 +1,4 @@
+//! Words, and the commands that they name.
 use crate::{Command, Made, Options, named_command};
 use bay_core::Layout;
 use std::alloc::{AllocError, Global};

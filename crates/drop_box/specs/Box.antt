@@ -11,6 +11,7 @@ use Rattle.drop_box.specs.declared.uses.Visit.{Visit}
 abbrev pub turnstile : ℕ
 turnstile = 0
 
+-- the word that counts the rings
 abbrev pub bell : ℕ
 bell = 1
 
@@ -31,6 +32,7 @@ went turn views = count_by (λ v. v.last == turn) views
 abbrev pub rings_of : List Visit → ℕ
 rings_of views = sum_by (λ v. v.rings) views
 
+-- the turn of a gate
 abbrev pub turn_of : Gate → ℕ
 turn_of (Shut turn) = turn
 turn_of (Held room turn ins) = turn

@@ -7,6 +7,7 @@ use Rattle.room_rule.specs.Callers.{after_step, sum_after}
 use Rattle.drop_box.specs.declared.uses.Visit.{Visit}
 use Rattle.drop_box.specs.Box.{turnstile, bell, went, TurnstileShows, MayKeep, HasOneKeeper, Boxed}
 
+-- 1 where it is so, and else 0
 abbrev pub one_if : Bool → ℕ
 one_if b = cond b 1 0
 

@@ -11,9 +11,11 @@ use Rattle.room_rule.specs.Callers.{at_below, one_view}
 use Rattle.drop_box.specs.declared.uses.Visit.{Visit}
 use Rattle.drop_box.specs.Box.{slot_if, Keeps, HasOneKeeper}
 
+-- nothing is both
 pub not_both : (b : Bool) → b ≡ false → b ≡ true → ⊥
 not_both b e f = let h : false ≡ true = sym e ∙ f in cc
 
+-- who does not keep the slot shows that it does not
 pub not_kept : (b : Bool) → (b ≡ true → ⊥) → b ≡ false
 not_kept true h = absurd (h refl)
 not_kept false h = refl

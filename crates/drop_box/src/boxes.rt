@@ -27,7 +27,11 @@ impl<T: Drop> Model for DropBox<T> {
 
 impl<T: Drop> DropBox<T> {
     /// Makes an empty box and a pass for each of `callers` callers, up to 64, each with `draws`
-    /// visits, up to 2^48. The error is want of memory alone.
+    /// visits, up to 2^48.
+    ///
+    /// # Errors
+    ///
+    /// Want of memory alone.
     pub fn set_up(
         alloc: Global,
         callers: u32,

@@ -11,7 +11,11 @@ use std::alloc::Global;
 impl<T: Drop> DropBox<T> {
     /// Takes the box apart, with the passes of all its callers: the words are 0 and how often the
     /// bell was rung, and there is one slot, which holds an item or none. It takes the memory of the
-    /// answer first; where there is none, it hands back the box and the passes.
+    /// answer first.
+    ///
+    /// # Errors
+    ///
+    /// The box and the passes, for want of memory.
     pub fn close(
         self,
         alloc: Global,

@@ -1,5 +1,5 @@
 -- The index from places to objects.
-use Rattle.std.proofs.Common.{◌≡◌, ◌≢◌, ℕ, zero, suc, ◌+◌, ◌-◌, ◌<◌, ◌≤◌, List, [], ◌∷◌, ◌++◌, inl, inr, refl, sym, ap, subst, ◌∙◌, arith, get_or, take, set, replicate, length, Option, Some, None}
+use Rattle.std.proofs.Common.{◌≡◌, ◌≢◌, ℕ, zero, suc, ◌+◌, ◌-◌, ◌<◌, List, [], ◌∷◌, ◌++◌, inl, inr, refl, sym, subst, ◌∙◌, arith, get_or, take, set, replicate, length}
 use Rattle.std.proofs.lemmas.List.{get_or-set_same, get_or-set_other, get_or_push, get_or_append_left, length_push, get_or_past, take_more, length-take-le, get_or-take}
 use Rattle.std.proofs.lemmas.Bool.{cases_lt, cases_eq}
 use Rattle.image_core.specs.Heap.{Fill, Names}
@@ -75,14 +75,14 @@ module _ (heads numbers : List ℕ) (word : ℕ) (index : IsIndex heads numbers)
   ]
 
 -- one more of the objects that fill the words
-pub IsIndex-more : (words heads numbers : List ℕ) (object number : ℕ) → Fill words heads → object < length heads → length numbers ≡ length words
+pub IsIndex-more : (format : ℕ) (words heads numbers : List ℕ) (object number : ℕ) → Fill format words heads → object < length heads → length numbers ≡ length words
     → IsIndex (take object heads) numbers → number ≡ object + 1 → IsIndex (take (object + 1) heads) (set numbers (get_or heads object 0) number)
-IsIndex-more words heads numbers object number fill below each index is =
+IsIndex-more format words heads numbers object number fill below each index is =
     let front : length (take object heads) ≡ object = length-take-le object heads (omega arith) in
     subst (λ hs. IsIndex hs (set numbers (get_or heads object 0) number)) (sym (take_more heads object 0 below))
     (IsIndex-push (take object heads) numbers (get_or heads object 0) number index
-    (λ other less same. absurd (omega (arith, Fill-once words heads fill other object (omega arith) below (sym (get_or-take object heads other 0 (omega arith)) ∙ same))))
-    (omega (arith, Fill-fits words heads fill object below))
+    (λ other less same. absurd (omega (arith, Fill-once format words heads fill other object (omega arith) below (sym (get_or-take object heads other 0 (omega arith)) ∙ same))))
+    (omega (arith, Fill-fits format words heads fill object below))
     (omega arith))
 
 -- what an entry says of a word, and a word of its entry

@@ -1,5 +1,5 @@
 -- Words that name headers.
-use Rattle.std.proofs.Common.{◌≡◌, ℕ, ◌+◌, ◌-◌, ◌<◌, ◌≤◌, ◌⊎◌, inl, inr, List, ap, sym, ◌∙◌, arith, get_or, length}
+use Rattle.std.proofs.Common.{◌≡◌, ℕ, ◌+◌, ◌<◌, ◌≤◌, ◌⊎◌, inl, inr, List, ap, sym, ◌∙◌, arith, get_or, length}
 use Rattle.std.proofs.lemmas.List.{get_or_default}
 use Rattle.image_core.specs.Heap.{Fill, Names}
 use Rattle.image_core.proofs.Standing.{Fill-fits}
@@ -16,8 +16,8 @@ named heads word (inr (object, head, below, at, is)) =
     inr (object, below, is ∙ ap (λ h. 1 + h) (sym at ∙ get_or_default heads object head 0 below))
 
 -- a word that names a header is at most the number of words
-pub Names-within : (words heads : List ℕ) (word : ℕ) → Fill words heads → Names heads word → word ≤ length words
-Names-within words heads word fill names = elim (named heads word names) [
+pub Names-within : (format : ℕ) (words heads : List ℕ) (word : ℕ) → Fill format words heads → Names heads word → word ≤ length words
+Names-within format words heads word fill names = elim (named heads word names) [
   | inl none_ ↦ omega (arith, none_)
-  | inr there ↦ omega (arith, there.2, Fill-fits words heads fill there.0 there.1)
+  | inr there ↦ omega (arith, there.2, Fill-fits format words heads fill there.0 there.1)
 ]

@@ -1,12 +1,12 @@
 -- Paths of references, and what they lead to.
-use Rattle.std.proofs.Common.{◌≡◌, ℕ, zero, suc, ◌+◌, ◌-◌, ◌<◌, ◌⊎◌, inl, inr, List, [], ◌∷◌, ◌++◌, refl, sym, ap, subst, ◌∙◌, arith, get_or, length}
-use Rattle.std.proofs.lemmas.List.{get_or_default}
+use Rattle.std.proofs.Common.{◌≡◌, ℕ, ◌<◌, inl, inr, List, [], ◌∷◌, ◌++◌, refl, sym, subst, arith}
 use Rattle.std.proofs.lemmas.List.Elements.{All-contains}
 use Rattle.std.specs.List.{Contains, All}
 use Rattle.image_core.specs.Object.{references_at}
 use Rattle.image_core.specs.Heap.{Heap, head_of, Names, IsLawful}
 use Rattle.image_core.specs.Live.{IsObject, name_of, IsRoot, RefersTo, Leads, IsLive}
 use Rattle.image_core.proofs.Naming.{named}
+use Rattle.image_core.proofs.Parts.{references_named}
 
 -- a path and one reference more
 Leads-push : (heap : Heap) (first : ℕ) (path : List ℕ) (object other : ℕ) → Leads heap first path object → RefersTo heap object other
@@ -50,7 +50,8 @@ module _ (heap : Heap) (lawful : IsLawful heap) where
   pub reference_of : (object word : ℕ) → IsObject heap object → Contains (references_at heap.words (head_of heap object)) word → 0 < word
       → (other : ℕ) × IsObject heap other × (word ≡ name_of heap other) × RefersTo heap object other
   reference_of object word is reference some_ =
-      let all : All (Names heap.heads) (references_at heap.words (head_of heap object)) = lawful.references object 0 is in
+      let all : All (Names heap.heads) (references_at heap.words (head_of heap object)) =
+      references_named heap.format heap.words heap.heads (head_of heap object) (lawful.references object 0 is) in
       elim (named heap.heads word (All-contains (Names heap.heads) (references_at heap.words (head_of heap object)) word all reference)) [
         | inl none_ ↦ absurd (omega (arith, none_, some_))
         | inr there ↦

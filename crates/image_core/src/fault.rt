@@ -6,7 +6,7 @@ pub enum ImageKind {
     /// Fewer bytes than a header has, or than the header says. The place is how many there are, the
     /// value how many there should be.
     Short,
-    /// The first byte that is not that of the magic, with its place.
+    /// The first byte that is not that of a magic, with its place.
     Magic,
     /// The header says more heap words than an image may have. The place is 8, the value what it says.
     TooManyWords,
@@ -19,7 +19,8 @@ pub enum ImageKind {
     /// More objects than an image may have: the header word of the first that is too many, with the
     /// number of that word.
     TooManyObjects,
-    /// The first reference word that is neither 0 nor names an object, with the number of the word.
+    /// The first reference or weak word that is neither 0 nor names an object, with the number of the
+    /// word.
     BadRef,
     /// The first root word that is neither 0 nor names an object, with the number of the root.
     BadRoot,

@@ -1,4 +1,4 @@
-ghost use Rattle.std.specs.Prelude.{◌≡◌, ◌<◌, ◌≤◌, ◌^◌, ◌↔◌, length, slice_index, IsTrue, IfOk};
+ghost use Rattle.std.specs.Prelude.{ℕ, ◌≡◌, ◌<◌, ◌≤◌, ◌^◌, ◌↔◌, length, slice_index, IsTrue, IfOk};
 ghost use Rattle.image_core.specs.Heap.{Fill, Names};
 ghost use Rattle.image_core.specs.Index.{IsIndex};
 ghost use Rattle.image_core.specs.Shape.{Target};
@@ -26,10 +26,10 @@ impl Model for HeaderIndex {
 }
 
 impl HeaderIndex {
-    /// The index of headers that stand among the words.
+    /// The index of headers that stand among the words, of whatever format.
     pub fn new(alloc: Global, words: &[u64], heads: Vec<u32>) -> Result<HeaderIndex, AllocError>
         requires few { length words.now ≤ 2 ^ 22 }
-        requires fill { Fill words.now heads.items }
+        requires fill { (format : ℕ) × Fill format words.now heads.items }
         ensures { IfOk result (λ index. index ≡ heads.items) }
     {
         let numbers = numbered(alloc, words, heads.as_slice())?;
@@ -79,7 +79,7 @@ impl HeaderIndex {
 /// For each word 1 + the number of the object whose header it is, or 0.
 fn numbered(alloc: Global, words: &[u64], heads: &[u32]) -> Result<Vec<u32>, AllocError>
     requires few { length words.now ≤ 2 ^ 22 }
-    requires fill { Fill words.now heads.now }
+    requires fill { (format : ℕ) × Fill format words.now heads.now }
     ensures { IfOk result (λ numbers. IsIndex heads.now numbers.items) }
 {
     let mut numbers = vec![in alloc; 0u32; words.len()]?;

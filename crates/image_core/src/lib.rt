@@ -12,7 +12,7 @@ mod walk;
 pub use fault::{ImageFault, ImageKind, ReadImage};
 pub use header::size;
 pub use image::Image;
-pub use object::{Obj, data, references};
+pub use object::{Obj, data, references, weak_references};
 
 #[cfg(test)]
 mod tests;

@@ -1,13 +1,14 @@
-ghost use Rattle.std.specs.Prelude.{◌≡◌, ◌<◌, length, slice_index};
-ghost use Rattle.image_core.specs.Object.{Fits, references_at, data_at};
+ghost use Rattle.std.specs.Prelude.{◌≡◌, ◌+◌, ◌<◌, length, slice_index};
+ghost use Rattle.image_core.specs.Object.{Fits, refs_at, references_at, weak_references_at, naming_at, data_at};
 
-use crate::header::{plain, refs, size, tag};
+use crate::header::{names, plain, refs, size, tag, weak};
 
-/// An object: where its header stands, how many reference and data words follow, and its tag.
+/// An object: where its header stands, how many reference, weak and data words follow, and its tag.
 #[derive(Debug, Clone, Copy, PartialEq, Eq)]
 pub struct Obj {
     pub at: u32,
     pub refs: u32,
+    pub weak: u32,
     pub plain: u32,
     pub tag: u32,
 }
@@ -15,18 +16,19 @@ pub struct Obj {
 impl Obj {
     ghost use Rattle.image_core.specs.Shape.{object_at};
 
-    /// The object whose header stands at a place.
+    /// The object of a format whose header stands at a place.
     #[inline(always)]
-    pub(crate) fn read(words: &[u64], head: u32) -> Obj
+    pub(crate) fn read(format: u8, words: &[u64], head: u32) -> Obj
         requires { head < length words.now }
-        ensures { result ≡ object_at words.now head }
+        ensures { result ≡ object_at format words.now head }
     {
         let header = words[head as usize];
         Obj {
             at: head,
             refs: refs(header),
+            weak: weak(format, header),
             plain: plain(header),
-            tag: tag(header),
+            tag: tag(format, header),
         }
     }
 }
@@ -34,19 +36,40 @@ impl Obj {
 /// The reference words of the object whose header stands at a place.
 #[inline(always)]
 pub fn references(words: &[u64], head: usize) -> &[u64]
-    requires { Fits words.now head }
+    requires { head + refs_at words.now head < length words.now }
     ensures { result.now ≡ references_at words.now head }
 {
     let from = head + 1;
     &words[from..from + refs(words[head]) as usize]
 }
 
-/// The data words of the object whose header stands at a place.
+/// The weak words of the object whose header stands at a place.
 #[inline(always)]
-pub fn data(words: &[u64], head: usize) -> &[u64]
-    requires { Fits words.now head }
-    ensures { result.now ≡ data_at words.now head }
+pub fn weak_references(format: u8, words: &[u64], head: usize) -> &[u64]
+    requires { Fits format words.now head }
+    ensures { result.now ≡ weak_references_at format words.now head }
 {
     let header = words[head];
-    &words[head + 1 + refs(header) as usize..head + size(header)]
+    &words[head + 1 + refs(header) as usize..head + 1 + names(format, header)]
+}
+
+/// The words that name objects of the object whose header stands at a place: its references, and then
+/// its weak ones.
+#[inline(always)]
+pub fn naming(format: u8, words: &[u64], head: usize) -> &[u64]
+    requires { Fits format words.now head }
+    ensures { result.now ≡ naming_at format words.now head }
+{
+    let from = head + 1;
+    &words[from..from + names(format, words[head])]
+}
+
+/// The data words of the object whose header stands at a place.
+#[inline(always)]
+pub fn data(format: u8, words: &[u64], head: usize) -> &[u64]
+    requires { Fits format words.now head }
+    ensures { result.now ≡ data_at format words.now head }
+{
+    let header = words[head];
+    &words[head + 1 + names(format, header)..head + size(format, header)]
 }

@@ -7,8 +7,8 @@ use Rattle.std.proofs.lemmas.List.Concat.{flat_map-append}
 use Rattle.std.proofs.lemmas.List.Elements.{All-map}
 use Rattle.std.proofs.lemmas.List.FromFn.{get_or-map-range_with_len}
 use Rattle.std.specs.List.{range_with_len, flat_map, All}
-use Rattle.image_core.specs.Header.{refs_of, plain_of, size_of}
-use Rattle.image_core.specs.Object.{size_at, refs_at, references_at}
+use Rattle.image_core.specs.Header.{refs_of, weak_of, plain_of, names_of, size_of}
+use Rattle.image_core.specs.Object.{size_at, names_at, naming_at}
 use Rattle.image_core.specs.Heap.{Heap, Stand, Names, EachReferenceNames, IsLawful}
 use Rattle.image_core.proofs.Naming.{Names-head}
 use Rattle.image_reader.specs.Draws.{after, draw, draws}
@@ -25,8 +25,15 @@ plain_of-header : (object shape : ℕ) → plain_of (header object shape) ≡ da
 unfolding plain_of
 plain_of-header object shape = omega (arith, body_small shape)
 
-size_of-header : (object shape : ℕ) → size_of (header object shape) ≡ 1 + body shape
-size_of-header object shape = omega (arith, refs_of-header object shape, plain_of-header object shape)
+weak_of-header : (object shape : ℕ) → weak_of 1 (header object shape) ≡ 0
+unfolding weak_of
+weak_of-header object shape = refl
+
+names_of-header : (object shape : ℕ) → names_of 1 (header object shape) ≡ refs shape
+names_of-header object shape = omega (arith, refs_of-header object shape, weak_of-header object shape)
+
+size_of-header : (object shape : ℕ) → size_of 1 (header object shape) ≡ 1 + body shape
+size_of-header object shape = omega (arith, names_of-header object shape, plain_of-header object shape)
 
 -- the numbers from one on, in two parts
 range_split : (from count rest : ℕ) → range_with_len from (count + rest) ≡ range_with_len from count ++ range_with_len (from + count) rest
@@ -117,8 +124,8 @@ module _ (start objects : ℕ) where
         let same : place start object ≡ place start object + 0 = omega arith in
         ap (λ n. get_or words_ n 0) same ∙ sym (get_or-drop (place start object) words_ 0 0) ∙ ap (λ l. get_or l 0 0) drop-made
 
-    size-made : size_at words_ (place start object) ≡ 1 + body (draw start object)
-    size-made = ap size_of header-made ∙ size_of-header object (draw start object)
+    size-made : size_at 1 words_ (place start object) ≡ 1 + body (draw start object)
+    size-made = ap (size_of 1) header-made ∙ size_of-header object (draw start object)
 
     within-made : place start object < length words_
     within-made =
@@ -131,7 +138,7 @@ module _ (start objects : ℕ) where
           length-object object,
         )
 
-    references-made : references_at words_ (place start object)
+    references-made : naming_at 1 words_ (place start object)
         ≡ map (reference heads_) (draws start (drawn_before start (length heads_) object) (refs (draw start object)))
     references-made =
         let v : ℕ = draw start object in
@@ -139,8 +146,8 @@ module _ (start objects : ℕ) where
         let at : ℕ = place start object in
         let named_ : List ℕ = map (reference heads_) (draws start before (refs v)) in
         let data_ : List ℕ = draws start (before + refs v) (data_words v) in
-        let count : refs_at words_ at ≡ refs v = ap refs_of header-made ∙ refs_of-header object v in
-        let many : at + 1 + refs_at words_ at - (at + 1) ≡ refs v = omega (arith, count) in
+        let count : names_at 1 words_ at ≡ refs v = ap (names_of 1) header-made ∙ names_of-header object v in
+        let many : at + 1 + names_at 1 words_ at - (at + 1) ≡ refs v = omega (arith, count) in
         let behind : drop (at + 1) words_ ≡ named_ ++ (data_ ++ rest_) =
         sym (drop-drop 1 at words_) ∙ ap (drop 1) drop-made ∙ append_assoc named_ data_ rest_ in
         ap (λ n. take n (drop (at + 1) words_)) many ∙ ap (take (refs v)) behind
@@ -148,25 +155,25 @@ module _ (start objects : ℕ) where
 
   -- the objects stand end to end
   Stand-made : (object count : ℕ) → object + count ≡ objects
-      → Stand words_ (place start object) (map (place start) (range_with_len object count)) (length words_)
+      → Stand 1 words_ (place start object) (map (place start) (range_with_len object count)) (length words_)
   Stand-made object zero all =
       let same : object ≡ objects = omega (arith, all) in
       ap (place start) same ∙ sym (length-before objects)
   Stand-made object (suc count) all =
       let below : object < objects = omega (arith, all) in
-      let next_ : place start (object + 1) ≡ place start object + size_at words_ (place start object) =
+      let next_ : place start (object + 1) ≡ place start object + size_at 1 words_ (place start object) =
       place_more start object ∙ ap (λ n. place start object + n) (sym (size-made object below)) in (
         refl,
         within-made object below,
-        subst (λ p. Stand words_ p (map (place start) (range_with_len (object + 1) count)) (length words_)) next_ (Stand-made (object + 1) count (omega (arith, all))),
+        subst (λ p. Stand 1 words_ p (map (place start) (range_with_len (object + 1) count)) (length words_)) next_ (Stand-made (object + 1) count (omega (arith, all))),
       )
 
-  references_named : EachReferenceNames words_ heads_
+  references_named : EachReferenceNames 1 words_ heads_
   references_named = λ m d below.
       let within : m < objects = omega (arith, below, length-places start objects) in
       let at : get_or heads_ m d ≡ place start m = get_or-map-range_with_len (place start) 0 objects m m d within (omega arith) in
-      let are : references_at words_ (get_or heads_ m d) ≡ map (reference heads_) (draws start (drawn_before start (length heads_) m) (refs (draw start m))) =
-      ap (references_at words_) at ∙ references-made m within in
+      let are : naming_at 1 words_ (get_or heads_ m d) ≡ map (reference heads_) (draws start (drawn_before start (length heads_) m) (refs (draw start m))) =
+      ap (naming_at 1 words_) at ∙ references-made m within in
       subst (All (Names heads_)) (sym are)
       (All-made (Names heads_) (reference heads_) (draws start (drawn_before start (length heads_) m) (refs (draw start m))) (Names-reference heads_))
 
@@ -184,6 +191,7 @@ made_lawful objects seed few =
     let start : ℕ = seed % 2 ^ 31 in
     let before : ℕ = drawn_before start objects objects in
     record {
+      known = inl refl;
       few_words = omega (arith, few, length-before start objects objects, bodies_small start objects);
       few_roots = omega (arith, length-map (draws start before (min objects 16)) (root (places start objects)), length-draws start before (min objects 16));
       few_objects = omega (arith, few, length-places start objects);
@@ -197,7 +205,7 @@ module _ (objects seed start last : ℕ) (words roots heads : List ℕ) where
   pub made_is : start ≡ seed % 2 ^ 31 → words ≡ flat_map (object_words start (places start objects)) (range_with_len 0 objects)
       → heads ≡ places start objects → last ≡ after start (drawn_before start objects objects)
       → roots ≡ map (root heads) (draws last 0 (min (length heads) 16))
-      → record { words = words; roots = roots; heads = heads } ≡ made objects seed
+      → record { format = 1; words = words; roots = roots; heads = heads } ≡ made objects seed
   unfolding made
   made_is starts words_are heads_are lasts roots_are =
       let all : List ℕ = places start objects in
@@ -209,10 +217,11 @@ module _ (objects seed start last : ℕ) (words roots heads : List ℕ) where
       ∙ ap (λ n. map (root all) (draws n 0 (min objects 16))) lasts
       ∙ ap (map (root all)) (draws_after start before 0 (min objects 16))
       ∙ ap (λ n. map (root all) (draws start n (min objects 16))) none in
-      let f : List ℕ → Heap = λ w. record { words = w; roots = roots; heads = heads } in
-      let g : List ℕ → Heap = λ r. record { words = flat_map (object_words start all) (range_with_len 0 objects); roots = r; heads = heads } in
-      let h : List ℕ → Heap = λ p. record { words = flat_map (object_words start all) (range_with_len 0 objects); roots = map (root all) (draws start before (min objects 16)); heads = p } in
+      let f : List ℕ → Heap = λ w. record { format = 1; words = w; roots = roots; heads = heads } in
+      let g : List ℕ → Heap = λ r. record { format = 1; words = flat_map (object_words start all) (range_with_len 0 objects); roots = r; heads = heads } in
+      let h : List ℕ → Heap = λ p. record { format = 1; words = flat_map (object_words start all) (range_with_len 0 objects); roots = map (root all) (draws start before (min objects 16)); heads = p } in
       let k : ℕ → Heap = λ s. record {
+        format = 1;
         words = flat_map (object_words s (places s objects)) (range_with_len 0 objects);
         roots = map (root (places s objects)) (draws s (drawn_before s objects objects) (min objects 16));
         heads = places s objects;

@@ -1,5 +1,5 @@
 -- Bytes and the words that they spell.
-use Rattle.std.proofs.Common.{◌≡◌, ℕ, ◌+◌, ◌-◌, ◌*◌, ◌^◌, ◌<◌, ◌≤◌, List, [], ◌∷◌, ◌++◌, refl, sym, ap, ◌∙◌, arith, length, take, drop, append_assoc}
+use Rattle.std.proofs.Common.{◌≡◌, ℕ, ◌+◌, ◌-◌, ◌*◌, ◌^◌, ◌<◌, ◌≤◌, List, [], ◌∷◌, ◌++◌, refl, sym, ap, ◌∙◌, arith, length, get_or, take, drop, append_assoc}
 use Rattle.std.proofs.Math.Seq.{take-add}
 use Rattle.std.proofs.lemmas.List.{take-append-drop, length-append, append-nil}
 use Rattle.std.proofs.lemmas.List.Concat.{flat_map-append}
@@ -8,7 +8,7 @@ use Rattle.std.proofs.lemmas.List.Folds.{drop_split}
 use Rattle.std.proofs.lemmas.Nat.{from_le_bytes-to_le_bytes_8}
 use Rattle.std.specs.List.{slice_range}
 use Rattle.std.specs.Int.{w64, from_le_bytes}
-use Rattle.image_reader.specs.Bytes.{magic_bytes, word_bytes, spelled, spelling, AreWords, Spells}
+use Rattle.image_reader.specs.Bytes.{magic_bytes, digit_of, word_bytes, spelled, spelling, AreWords, Spells}
 use Rattle.image_reader.specs.Fault.{words_said, roots_said}
 
 -- one more word
@@ -29,12 +29,12 @@ pub length-spelled : (words : List ℕ) → length (spelled words) ≡ 8 * lengt
 length-spelled [] = refl
 length-spelled (word ∷ words) = omega (arith, length-append (word_bytes word) (spelled words), length-spelled words)
 
-pub length-spelling : (words roots : List ℕ) → length (spelling words roots) ≡ 24 + 8 * (length words + length roots)
-length-spelling words roots =
+pub length-spelling : (format : ℕ) (words roots : List ℕ) → length (spelling format words roots) ≡ 24 + 8 * (length words + length roots)
+length-spelling format words roots =
     omega (
       arith,
-      length-append (magic_bytes ++ word_bytes (length words) ++ word_bytes (length roots) ++ spelled words) (spelled roots),
-      length-append (magic_bytes ++ word_bytes (length words) ++ word_bytes (length roots)) (spelled words),
+      length-append (magic_bytes format ++ word_bytes (length words) ++ word_bytes (length roots) ++ spelled words) (spelled roots),
+      length-append (magic_bytes format ++ word_bytes (length words) ++ word_bytes (length roots)) (spelled words),
       length-spelled words,
       length-spelled roots,
     )
@@ -80,17 +80,19 @@ spelled_once (x ∷ xs) (y ∷ ys) p q e =
     cc
 
 -- what the header of spelled bytes says
-pub words_said-spelling : (words roots : List ℕ) → length words ≤ 2 ^ 22 → words_said (spelling words roots) ≡ length words
-words_said-spelling words roots few = from_le_bytes-to_le_bytes_8 (length words) (omega arith)
+pub words_said-spelling : (format : ℕ) (words roots : List ℕ) → length words ≤ 2 ^ 22 → words_said (spelling format words roots) ≡ length words
+words_said-spelling format words roots few = from_le_bytes-to_le_bytes_8 (length words) (omega arith)
 
-pub roots_said-spelling : (words roots : List ℕ) → length roots ≤ 2 ^ 16 → roots_said (spelling words roots) ≡ length roots
-roots_said-spelling words roots few = from_le_bytes-to_le_bytes_8 (length roots) (omega arith)
+pub roots_said-spelling : (format : ℕ) (words roots : List ℕ) → length roots ≤ 2 ^ 16 → roots_said (spelling format words roots) ≡ length roots
+roots_said-spelling format words roots few = from_le_bytes-to_le_bytes_8 (length roots) (omega arith)
 
--- bytes spell one list of words and one of roots
-pub Spells-once : (bytes xs rs ys ss : List ℕ) → Spells bytes xs rs → Spells bytes ys ss → (xs ≡ ys) × (rs ≡ ss)
-Spells-once bytes xs rs ys ss a b =
+-- bytes spell one list of words and one of roots, in one format
+pub Spells-once : (bytes : List ℕ) (f : ℕ) (xs rs : List ℕ) (g : ℕ) (ys ss : List ℕ) → Spells bytes f xs rs → Spells bytes g ys ss
+    → (f ≡ g) × (xs ≡ ys) × (rs ≡ ss)
+Spells-once bytes f xs rs g ys ss a b =
+    let digit : digit_of f ≡ digit_of g = ap (λ z. get_or z 7 0) (sym a.spelled_so ∙ b.spelled_so) in
     let count : length xs ≡ length ys =
-    sym (ap words_said a.spelled_so ∙ words_said-spelling xs rs a.few_words) ∙ (ap words_said b.spelled_so ∙ words_said-spelling ys ss b.few_words) in
+    sym (ap words_said a.spelled_so ∙ words_said-spelling f xs rs a.few_words) ∙ (ap words_said b.spelled_so ∙ words_said-spelling g ys ss b.few_words) in
     let bodies : spelled xs ++ spelled rs ≡ spelled ys ++ spelled ss = ap (drop 24) (sym a.spelled_so ∙ b.spelled_so) in
     let parts = split_same (spelled xs) (spelled ys) (spelled rs) (spelled ss) (omega (arith, length-spelled xs, length-spelled ys, count)) bodies in
-    (spelled_once xs ys a.words_fit b.words_fit parts.0, spelled_once rs ss a.roots_fit b.roots_fit parts.1)
+    (omega (arith, digit), spelled_once xs ys a.words_fit b.words_fit parts.0, spelled_once rs ss a.roots_fit b.roots_fit parts.1)

@@ -1,6 +1,5 @@
 -- Bytes have at most one fault: the tests of the header and of the length stand in their order, and the first that fails is told.
 use Rattle.std.proofs.Common.{◌≡◌, ℕ, zero, suc, ◌^◌, ◌≤◌, inl, inr, List, refl, sym, ap, subst, ◌∙◌, arith, get_or, length}
-use Rattle.std.proofs.lemmas.List.{get_or-take}
 use Rattle.std.proofs.lemmas.Bool.{cases_lt}
 use Rattle.image_core.specs.Fault.{OnFault, Tells}
 use Rattle.image_core.specs.declared.fault.ImageFault.{ImageFault}
@@ -9,9 +8,8 @@ use Rattle.image_core.specs.declared.fault.ImageKind.TheVariants.{Short, Magic, 
 use Rattle.image_core.specs.declared.fault.ReadImage.{ReadImage}
 use Rattle.image_core.specs.declared.fault.ReadImage.TheVariants.{Fault, Memory}
 use Rattle.image_core.proofs.Once.{fault_once as fault_once-words}
-use Rattle.image_reader.specs.Bytes.{magic_bytes}
 use Rattle.image_reader.specs.Fault.{words_said, roots_said, length_said, HasMagic, HasHeader, IsOtherMagic, SpelledFail, BytesFail, HasFault}
-use Rattle.image_reader.proofs.Header.{Spells-header}
+use Rattle.image_reader.proofs.Header.{Spells-header, HasMagic-byte}
 use Rattle.image_reader.proofs.Once.{same_spelled}
 
 abbrev fault_of : ImageKind → ℕ → ℕ → ImageFault
@@ -70,7 +68,7 @@ module _ (bytes : List ℕ) where
   spelled_stage : (kind : ImageKind) (place value : ℕ) → SpelledFail bytes kind place value → Stage kind place value
   spelled_stage kind place value fails = record {
     count = 6;
-    passes = Spells-header bytes fails.0 fails.1 fails.2;
+    passes = Spells-header bytes fails.0 fails.1 fails.2 fails.3;
     fails = λ none. none;
     told = fails;
   }
@@ -91,7 +89,7 @@ module _ (bytes : List ℕ) where
   stage Magic place value (long_enough, other, is) = record {
     count = 1;
     passes = long_enough;
-    fails = λ passes. other.differs (sym (get_or-take 8 bytes place 0 other.within) ∙ ap (λ z. get_or z place 0) passes.magic_there);
+    fails = λ passes. other.differs (HasMagic-byte bytes place passes other.within);
     told = (refl, other, is);
   }
   stage TooManyWords place value fails = record {
@@ -117,12 +115,12 @@ module _ (bytes : List ℕ) where
   stage BadRef place value fails = spelled_stage BadRef place value fails
   stage BadRoot place value fails = spelled_stage BadRoot place value fails
 
-  -- there is one first byte that is not that of the magic
+  -- there is one first byte that is not that of a magic
   other_magic_once : (place other : ℕ) → IsOtherMagic bytes place → IsOtherMagic bytes other → place ≡ other
   other_magic_once place other a b = elim (cases_lt place other) [
-    | inl below ↦ absurd (a.differs (sym (get_or-take other bytes place 0 below) ∙ ap (λ z. get_or z place 0) b.before ∙ get_or-take other magic_bytes place 0 below))
+    | inl below ↦ absurd (a.differs (b.first place below))
     | inr most ↦ elim (cases_lt other place) [
-      | inl above ↦ absurd (b.differs (sym (get_or-take place bytes other 0 above) ∙ ap (λ z. get_or z other 0) a.before ∙ get_or-take place magic_bytes other 0 above))
+      | inl above ↦ absurd (b.differs (a.first other above))
       | inr least ↦ omega (arith, most, least)
     ]
   ]
@@ -137,8 +135,8 @@ module _ (bytes : List ℕ) where
   told_same (suc (suc (suc zero))) kind other p v q w a b = a ∙ sym b
   told_same (suc (suc (suc (suc zero)))) kind other p v q w a b = a ∙ sym b
   told_same (suc (suc (suc (suc (suc zero))))) kind other p v q w a b = a ∙ sym b
-  told_same (suc (suc (suc (suc (suc (suc n)))))) kind other p v q w a (words, roots, spells, fails) =
-      fault_once-words words roots (fault_of kind p v) (fault_of other q w) (same_spelled bytes words roots spells kind p v a) fails
+  told_same (suc (suc (suc (suc (suc (suc n)))))) kind other p v q w a (format, words, roots, spells, fails) =
+      fault_once-words format words roots (fault_of kind p v) (fault_of other q w) (same_spelled bytes format words roots spells kind p v a) fails
 
   -- bytes have at most one fault
   pub fault_once : (a b : ImageFault) → HasFault bytes a → HasFault bytes b → a ≡ b

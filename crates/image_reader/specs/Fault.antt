@@ -1,15 +1,20 @@
 -- Which test of the bytes of an image fails first, at which place, and with which value there.
-use Rattle.std.specs.Prelude.{◌≡◌, ◌≢◌, ℕ, ◌+◌, ◌*◌, ◌^◌, ◌<◌, ◌≤◌, ◌⊎◌, List, length, take, slice_index, slice_range}
+use Rattle.std.specs.Prelude.{◌≡◌, ℕ, ◌+◌, ◌-◌, ◌*◌, ◌^◌, ◌<◌, ◌≤◌, ◌⊎◌, List, length, take, slice_index, slice_range}
 use Rattle.std.specs.Int.{w64, from_le_bytes}
+use Rattle.image_core.specs.Header.{IsFormat}
 use Rattle.image_core.specs.Fault.{WordsFail}
 use Rattle.image_core.specs.declared.fault.ImageFault.{ImageFault}
 use Rattle.image_core.specs.declared.fault.ImageKind.{ImageKind}
 use Rattle.image_core.specs.declared.fault.ImageKind.TheVariants.{Short, Magic, TooManyWords, TooManyRoots, Long, Overrun, TooManyObjects, BadRef, BadRoot}
-use Rattle.image_reader.specs.Bytes.{magic_bytes, Spells}
+use Rattle.image_reader.specs.Bytes.{magic_bytes, digit_of, Spells}
 
 -- the number that eight bytes from a place on spell
 abbrev pub word_at : List ℕ → ℕ → ℕ
 word_at bytes place = from_le_bytes w64 (slice_range bytes place (place + 8))
+
+-- which format the byte behind the magic's name says, by its digit
+abbrev pub format_said : List ℕ → ℕ
+format_said bytes = slice_index bytes 7 - digit_of 0
 
 -- how many words the header says, and how many roots
 abbrev pub words_said : List ℕ → ℕ
@@ -22,10 +27,11 @@ roots_said bytes = word_at bytes 16
 abbrev pub length_said : List ℕ → ℕ
 length_said bytes = 24 + 8 * (words_said bytes + roots_said bytes)
 
--- there is a header, and it begins with the magic
+-- there is a header, and it begins with the magic of a format
 pub record HasMagic (bytes : List ℕ) : Type 0 where
   pub long_enough : 24 ≤ length bytes
-  pub magic_there : take 8 bytes ≡ magic_bytes
+  pub known : IsFormat (format_said bytes)
+  pub magic_there : take 8 bytes ≡ magic_bytes (format_said bytes)
 
 -- and its counts are within the limits
 pub record HasHeader (bytes : List ℕ) : Type 0 where
@@ -33,16 +39,21 @@ pub record HasHeader (bytes : List ℕ) : Type 0 where
   pub few_words : words_said bytes ≤ 2 ^ 22
   pub few_roots : roots_said bytes ≤ 2 ^ 16
 
--- the first byte that is not that of the magic
+-- the magic of a format has this byte at this place
+abbrev pub IsMagicByte : ℕ → ℕ → Type 0
+IsMagicByte place byte = (format : ℕ) × IsFormat format × (byte ≡ slice_index (magic_bytes format) place)
+
+-- the first byte that is not that of a magic
 pub record IsOtherMagic (bytes : List ℕ) (place : ℕ) : Type 0 where
   pub within : place < 8
-  pub differs : slice_index bytes place ≢ slice_index magic_bytes place
-  pub before : take place bytes ≡ take place magic_bytes
+  pub differs : ¬ IsMagicByte place (slice_index bytes place)
+  pub first : (earlier : ℕ) → earlier < place → IsMagicByte earlier (slice_index bytes earlier)
 
 -- all tests of the header and of the length pass, and this is the first that the words and roots fail
 abbrev pub SpelledFail : List ℕ → ImageKind → ℕ → ℕ → Type 0
 SpelledFail bytes kind place value =
-    (words : List ℕ) × (roots : List ℕ) × Spells bytes words roots × WordsFail words roots kind place value
+    (format : ℕ) × (words : List ℕ) × (roots : List ℕ) × Spells bytes format words roots
+    × WordsFail format words roots kind place value
 
 -- the test of this kind is the first that the bytes fail; the tests stand in their order, and the second of the length is of the kind Short too
 abbrev pub BytesFail : List ℕ → ImageKind → ℕ → ℕ → Type 0

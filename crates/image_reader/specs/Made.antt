@@ -54,12 +54,13 @@ object_words start heads object =
     header object shape
     ∷ map (reference heads) (draws start before (refs shape)) ++ draws start (before + refs shape) (data_words shape)
 
--- the heap of so many objects by a seed, with a root for each object up to 16
+-- the heap of format 1 of so many objects by a seed, with a root for each object up to 16
 unfoldable pub made : ℕ → ℕ → Heap
 made objects seed =
     let start = seed % 2 ^ 31 in
     let heads = places start objects in
     record {
+      format = 1;
       words = flat_map (object_words start heads) (range_with_len 0 objects);
       roots = map (root heads) (draws start (drawn_before start objects objects) (min objects 16));
       heads = heads;

@@ -1,5 +1,6 @@
 //! Each fault at its edges. The places and values are worked out by hand from the order of the tests.
 use crate::read_image;
+use crate::tests::with_magic;
 use image_core::ImageKind::{
     BadRef, BadRoot, Long, Magic, Overrun, Short, TooManyObjects, TooManyRoots, TooManyWords,
 };
@@ -10,13 +11,9 @@ use std::test::Fail;
 /// A kind of fault, its place and its value.
 type Told = (ImageKind, u64, u64);
 
-/// The magic, and then these numbers.
+/// The magic of format 1, and then these numbers.
 fn bytes_of(alloc: Global, numbers: &[u64]) -> Result<Vec<u8>, AllocError> {
-    let mut bytes = Vec::from_slice(alloc, b"ROOMIMG1")?;
-    for number in numbers {
-        bytes.extend_from_slice(&number.to_le_bytes())?;
-    }
-    Ok(bytes)
+    with_magic(alloc, b"ROOMIMG1", numbers)
 }
 
 /// Whether reading these bytes tells this fault.
@@ -43,7 +40,7 @@ fn faults_of_the_header_and_the_length(rt: HostRuntime) -> Result<(), Fail> {
         (b"QOOMIMG1\0\0\0\0\0\0\0\0\0\0\0\0\0\0\0\0", (Magic, 0, 81)),
         (b"ROOMIMG\0\0\0\0\0\0\0\0\0\0\0\0\0\0\0\0\0", (Magic, 7, 0)),
         (b"ROOMIMG0\0\0\0\0\0\0\0\0\0\0\0\0\0\0\0\0", (Magic, 7, 48)),
-        (b"ROOMIMG2\0\0\0\0\0\0\0\0\0\0\0\0\0\0\0\0", (Magic, 7, 50)),
+        (b"ROOMIMG3\0\0\0\0\0\0\0\0\0\0\0\0\0\0\0\0", (Magic, 7, 51)),
         (
             b"ROOMIMG\xff\0\0\0\0\0\0\0\0\0\0\0\0\0\0\0\0",
             (Magic, 7, 255),
@@ -157,6 +154,32 @@ fn faults_of_words_and_roots(rt: HostRuntime) -> Result<(), Fail> {
     ];
     for (numbers, told) in cases {
         assert!(rt; tells(rt.alloc(), &bytes_of(rt.alloc(), numbers)?, told));
+    }
+    Ok(())
+}
+
+#[test]
+fn faults_of_weak_words(rt: HostRuntime) -> Result<(), Fail> {
+    // Headers are 2^32 for one weak word, 2^32 + 1 for a reference and a weak word, 2^32 + 2^16 for a
+    // weak word and a data word.
+    let cases: [(&[u64], Told); 8] = [
+        // A weak word that would name a header at its own place.
+        (&[2, 0, 4294967296, 2], (BadRef, 1, 2)),
+        // The weak word is missing, and so is the data word behind one.
+        (&[1, 0, 4294967296], (Overrun, 0, 4294967296)),
+        (&[2, 0, 4295032832, 0], (Overrun, 0, 4295032832)),
+        // A reference and a weak word that name nothing, and a weak one alone.
+        (&[3, 0, 4294967297, 2, 3], (BadRef, 1, 2)),
+        (&[3, 0, 4294967297, 1, 3], (BadRef, 2, 3)),
+        // A data word behind a weak one is not looked at.
+        (&[4, 0, 4295032832, 1, 9, 1], (Overrun, 3, 1)),
+        (&[5, 0, 4295032832, 1, 9, 1, 5], (BadRef, 4, 5)),
+        // A root that names a weak word.
+        (&[2, 1, 4294967296, 1, 2], (BadRoot, 0, 2)),
+    ];
+    for (numbers, told) in cases {
+        let bytes = with_magic(rt.alloc(), b"ROOMIMG2", numbers)?;
+        assert!(rt; tells(rt.alloc(), &bytes, told));
     }
     Ok(())
 }

@@ -1,21 +1,21 @@
-ghost use Rattle.std.specs.Prelude.{◌≡◌, ◌≤◌, length, take, IfOk, IfErr, IfSome, IfNone};
-ghost use Rattle.image_reader.specs.Bytes.{magic_bytes};
-ghost use Rattle.image_reader.specs.Fault.{HasFault, IsOtherMagic};
+ghost use Rattle.std.specs.Prelude.{◌≡◌, ◌≤◌, length, IfOk, IfErr, IfSome, IfNone};
+ghost use Rattle.image_reader.specs.Fault.{HasFault, HasMagic, IsOtherMagic};
 
 use crate::words::word;
 use image_core::{ImageFault, ImageKind};
 
-/// The eight bytes that an image begins with.
-pub const MAGIC: &[u8; 8] = b"ROOMIMG1";
+/// The seven bytes that an image begins with. The digit of its format follows.
+pub const MAGIC: &[u8; 7] = b"ROOMIMG";
 
 /// The most heap words and the most roots of an image.
 const MOST_WORDS: u64 = 1 << 22;
 
 const MOST_ROOTS: u64 = 1 << 16;
 
-/// How many words and roots the bytes of an image spell.
+/// The format of the bytes of an image, and how many words and roots they spell.
 #[derive(Clone, Copy)]
 pub struct Frame {
+    pub format: u8,
     pub words: usize,
     pub roots: usize,
 }
@@ -51,15 +51,16 @@ pub fn read_frame(bytes: &[u8]) -> Result<Frame, ImageFault>
         return Err(ImageFault::new(ImageKind::Long, said, u64::from(bytes[said as usize])));
     }
     Ok(Frame {
+        format: bytes[7] - b'0',
         words: words as usize,
         roots: roots as usize,
     })
 }
 
-/// The place of the first byte that is not that of the magic.
+/// The place of the first byte that is not that of a magic.
 fn other_magic(bytes: &[u8]) -> Option<usize>
-    requires { 8 ≤ length bytes.now }
-    ensures magic { IfNone result (take 8 bytes.now ≡ magic_bytes) }
+    requires { 24 ≤ length bytes.now }
+    ensures magic { IfNone result (HasMagic bytes.now) }
     ensures other { IfSome result (IsOtherMagic bytes.now) }
 {
     for place in 0..MAGIC.len() {
@@ -67,5 +68,9 @@ fn other_magic(bytes: &[u8]) -> Option<usize>
             return Some(place);
         }
     }
-    None
+    if bytes[7] == b'1' || bytes[7] == b'2' {
+        None
+    } else {
+        Some(7)
+    }
 }

@@ -26,7 +26,7 @@ pub fn read_image(alloc: Global, bytes: &[u8]) -> Result<Image, ReadImage>
 {
     let frame = read_frame(bytes)?;
     let (words, roots) = words_and_roots(alloc, bytes, frame)?;
-    Image::lawful(alloc, words, roots)
+    Image::lawful(alloc, frame.format, words, roots)
 }
 
 /// The words and roots that the bytes of a frame spell.
@@ -36,7 +36,7 @@ fn words_and_roots(
     frame: Frame,
 ) -> Result<(Vec<u64>, Vec<u64>), AllocError>
     requires { IsFrame bytes.now frame }
-    ensures { IfOk result (λ found. Spells bytes.now found.0.items found.1.items) }
+    ensures { IfOk result (λ found. Spells bytes.now frame.format found.0.items found.1.items) }
 {
     let end = 24 + 8 * frame.words;
     let words = words_of(alloc, &bytes[24..end], frame.words)?;

@@ -7,7 +7,7 @@ use crate::words::push_words;
 use image_core::Image;
 use std::alloc::{AllocError, Global};
 
-/// The bytes of an image, of which `read_image` gives that image again.
+/// The bytes of an image, in its own format, of which `read_image` gives that image again.
 pub fn write_image(alloc: Global, image: &Image) -> Result<Vec<u8>, AllocError>
     ensures image { IfOk result (λ bytes. IsImage bytes.items image.now) }
     // They are the bytes of no other heap.
@@ -17,6 +17,7 @@ pub fn write_image(alloc: Global, image: &Image) -> Result<Vec<u8>, AllocError>
     let roots = image.roots();
     let mut out = Vec::with_capacity(alloc, 24 + 8 * (words.len() + roots.len()))?;
     out.extend_from_slice(MAGIC)?;
+    out.push(b'0' + image.format())?;
     out.extend_from_slice(&(words.len() as u64).to_le_bytes())?;
     out.extend_from_slice(&(roots.len() as u64).to_le_bytes())?;
     push_words(&mut out, words)?;

@@ -32,8 +32,11 @@ fn read_bits(closed: &Closed<(), Global>, bits: usize, room: Vec<bool>) -> Vec<b
 
 impl Claims {
     /// Takes the claims apart, with all their seats, and answers for each bit whether it is set. It
-    /// takes the memory of the answer first; where there is none, it hands back the claims and the
-    /// seats. It waits for nobody.
+    /// takes the memory of the answer first, and waits for nobody.
+    ///
+    /// # Errors
+    ///
+    /// The claims and the seats, for want of memory.
     pub fn close(
         self,
         alloc: Global,

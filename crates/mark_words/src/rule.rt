@@ -8,7 +8,9 @@ use atomic_table::TableRule;
 /// What a table of claims is told when it is made.
 #[derive(Drop)]
 pub struct Plan {
+    /// How many bits there are, at most 2^20.
     pub bits: u32,
+    /// How many seats there are, 1 to 17.
     pub seats: u32,
 }
 

@@ -31,8 +31,11 @@ impl Model for Claims {
 
 impl Claims {
     /// Makes `bits` bits, at most 2^20, all clear, and `seats` seats, 1 to 17, that claimed
-    /// nothing. It takes all the memory of the calls on them but `close`, and waits for nobody. The
-    /// error is want of memory alone.
+    /// nothing. It takes all the memory of the calls on them but `close`, and waits for nobody.
+    ///
+    /// # Errors
+    ///
+    /// Want of memory alone.
     pub fn set_up(
         alloc: Global,
         bits: u32,

@@ -3,6 +3,7 @@ use std::collections::LinkedList;
 
 /// The view of one seat.
 pub struct Known {
+    /// The number of the seat; of the seat that makes the others, how many it has made.
     pub number: u32,
     /// How many seats of the set-up it stands for: 1 for a seat that claims, those still to be made
     /// for the seat that makes them, and those taken in at the close.

@@ -48,6 +48,7 @@ IsNamed rooms (Peering room turn k w) = (room < rooms) × (k < rooms)
 IsNamed rooms (Scanning room turn k) = (room < rooms) × (k < rooms)
 IsNamed rooms (Passing turn next) = (turn < 2 ^ 57) × IfSome next (λ k. k < rooms)
 
+-- the lists of a state are as long as its rooms and callers ask, and its phases name rooms that there are
 pub record IsSized (s : State) : Type 0 where
   pub some : 0 < length s.words.wait
   pub few : length s.words.wait ≤ 7

@@ -5,14 +5,17 @@ use Rattle.room_core.specs.declared.items.Item.TheVariants.{Opened, Left, ExitBe
 use Rattle.room_core.specs.declared.items.Opening.{Opening}
 use Rattle.room_core.specs.Openings.{opened}
 
+-- somebody leaves
 abbrev pub is_departure : Item → Bool
 is_departure (Left caller) = true
 is_departure _ = false
 
+-- exit code begins
 abbrev pub is_begin : Item → Bool
 is_begin (ExitBegun room) = true
 is_begin _ = false
 
+-- exit code ends
 abbrev pub is_end : Item → Bool
 is_end (ExitEnded room) = true
 is_end _ = false

@@ -24,6 +24,7 @@ touch_of Loads word n = Load word n
 touch_of (Stores v) word n = Store word v
 touch_of (Swaps old new) word n = Swap n new (n == old)
 
+-- what such a step leaves in a word that held n
 abbrev pub value_of : Kind → ℕ → ℕ
 value_of Adds n = n + 1
 value_of Loads n = n
@@ -39,9 +40,11 @@ pub record Move : Type 0 where
   pub one : ℕ → Option Item
   pub two : ℕ → Option Item
 
+-- the trace gains nothing
 abbrev pub silent : ℕ → Option Item
 silent n = None
 
+-- out: draws a ticket of room r
 abbrev pub drawing_move : ℕ → Move
 drawing_move r = record {
   word = Wait r;
@@ -51,6 +54,7 @@ drawing_move r = record {
   two = silent;
 }
 
+-- inside: counts itself out; who makes up the last ticket begins the exit code
 abbrev pub leaving_move : ℕ → ℕ → ℕ → ℕ → Move
 leaving_move c room turn to = record {
   word = Done room;
@@ -65,10 +69,12 @@ abbrev pub let_in : ℕ → ℕ → Option ℕ → ℕ → ℕ → Phase
 let_in room zero first turn to = Out
 let_in room (suc ticket) first turn to = Inside room (suc ticket) first turn to
 
+-- who holds a ticket enters
 abbrev pub enters_with : ℕ → ℕ → ℕ → Option Item
 enters_with c room zero = None
 enters_with c room (suc ticket) = Some (Entered c room)
 
+-- looking: loads the grant, and is let in if its ticket is no larger
 abbrev pub looking_move : ℕ → ℕ → Option ℕ → Move
 looking_move room ticket first = record {
   word = Grant room;
@@ -78,6 +84,7 @@ looking_move room ticket first = record {
   two = silent;
 }
 
+-- glancing: loads the active word, and tries to open its room where it is idle
 abbrev pub glancing_move : ℕ → ℕ → Option ℕ → Move
 glancing_move room ticket first = record {
   word = Active;
@@ -88,6 +95,7 @@ glancing_move room ticket first = record {
   two = silent;
 }
 
+-- seizing: opens its room in the next turn, if the active word is still the idle one that it saw
 abbrev pub seizing_move : ℕ → ℕ → Option ℕ → ℕ → Move
 seizing_move room ticket first idle = record {
   word = Active;
@@ -98,6 +106,7 @@ seizing_move room ticket first idle = record {
   two = silent;
 }
 
+-- counting: loads how many tickets of the room were drawn
 abbrev pub counting_move : ℕ → ℕ → Option ℕ → ℕ → Move
 counting_move room ticket first turn = record {
   word = Wait room;
@@ -107,6 +116,7 @@ counting_move room ticket first turn = record {
   two = silent;
 }
 
+-- admitting: stores the grant, which opens the room, and enters with its ticket
 abbrev pub admitting_move : ℕ → ℕ → ℕ → Option ℕ → ℕ → ℕ → Move
 admitting_move c room ticket first turn to = record {
   word = Grant room;
@@ -116,6 +126,7 @@ admitting_move c room ticket first turn to = record {
   two = λ n. enters_with c room ticket;
 }
 
+-- turning: loads the turn, and enters
 abbrev pub turning_move : ℕ → ℕ → ℕ → Option ℕ → ℕ → Move
 turning_move c room ticket first to = record {
   word = Active;
@@ -125,6 +136,7 @@ turning_move c room ticket first to = record {
   two = silent;
 }
 
+-- exiting: ends the exit code, and loads the wait of the next room
 abbrev pub exiting_move : ℕ → ℕ → ℕ → Move
 exiting_move m room turn = record {
   word = Wait ((room + 1) % m);
@@ -134,6 +146,7 @@ exiting_move m room turn = record {
   two = silent;
 }
 
+-- peering: loads the grant of room k, and knows whether somebody waits there
 abbrev pub peering_move : ℕ → ℕ → ℕ → ℕ → ℕ → Move
 peering_move m room turn k w = record {
   word = Grant k;
@@ -145,6 +158,7 @@ peering_move m room turn k w = record {
   two = silent;
 }
 
+-- scanning: loads the wait of room k
 abbrev pub scanning_move : ℕ → ℕ → ℕ → Move
 scanning_move room turn k = record {
   word = Wait k;
@@ -154,6 +168,7 @@ scanning_move room turn k = record {
   two = silent;
 }
 
+-- passing: stores the active word, for the room found or idle
 abbrev pub passing_move : ℕ → Option ℕ → Move
 passing_move turn (Some k) = record {
   word = Active;

@@ -19,6 +19,7 @@ opening_of (ExitEnded room) = None
 abbrev pub opened : List Item → List Opening
 opened trace = filter_map opening_of trace
 
+-- the last opening of a trace, if there is one
 abbrev pub last_opened : List Item → Option Opening
 last_opened trace = last_or None (opened trace)
 

@@ -8,10 +8,12 @@ use Rattle.room_core.specs.declared.phases.Phase.{Phase}
 use Rattle.room_core.specs.declared.phases.Phase.TheVariants.{Out, Inside}
 use Rattle.room_core.specs.Machine.{State, phase_of}
 
+-- the caller holds no ticket
 abbrev pub is_out : Phase → Bool
 is_out Out = true
 is_out _ = false
 
+-- the caller is inside a room
 abbrev pub is_inside : Phase → Bool
 is_inside (Inside room ticket first turn to) = true
 is_inside _ = false

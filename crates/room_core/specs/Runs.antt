@@ -17,6 +17,7 @@ pub record World : Type 0 where
   pub state : State
   pub history : List Moment
 
+-- the world after an act of c that has this row, or is refused
 abbrev pub carried : World → ℕ → Act → Result Row Refused → World
 carried w c act (Err why) = w
 carried w c act (Ok row) = record {
@@ -28,6 +29,7 @@ carried w c act (Ok row) = record {
 abbrev pub happens : World → ℕ × Act → World
 happens w a = carried w a.0 a.1 (row_of w.state a.0 a.1)
 
+-- so many rooms and callers, with all words 0, all callers out, and no past
 abbrev pub start : ℕ → ℕ → World
 start rooms callers =
     record {

@@ -11,6 +11,7 @@ use Rattle.room_core.specs.declared.items.Opening.{Opening}
 use Rattle.room_core.specs.Active.{seen}
 use Rattle.room_core.specs.Runs.{Moment}
 
+-- the past, and an item after it if there is one
 abbrev pub onto : Option Item → List Item → List Item
 onto None past = past
 onto (Some item) past = item ∷ past
@@ -56,6 +57,7 @@ is_exiting (Opened turn r from to ∷ past) = is_exiting past
 is_exiting (Entered d r ∷ past) = is_exiting past
 is_exiting (Left d ∷ past) = is_exiting past
 
+-- the last opening, if there is one
 abbrev pub last_opening : List Item → Option Opening
 last_opening [] = None
 last_opening (Opened turn r from to ∷ past) =
@@ -75,6 +77,7 @@ all_opened (Left c ∷ past) = all_opened past
 all_opened (ExitBegun r ∷ past) = all_opened past
 all_opened (ExitEnded r ∷ past) = all_opened past
 
+-- how many openings
 abbrev pub openings : List Item → ℕ
 openings [] = 0
 openings (Opened turn r from to ∷ past) = openings past + 1
@@ -83,6 +86,7 @@ openings (Left c ∷ past) = openings past
 openings (ExitBegun r ∷ past) = openings past
 openings (ExitEnded r ∷ past) = openings past
 
+-- the openings before the draw, if the act is one
 abbrev pub since_by : Act → List Moment → ℕ → ℕ
 since_by (Draw r) history old = openings (trace history)
 since_by Step history old = old
@@ -94,10 +98,12 @@ since c [] = 0
 since c (m ∷ history) =
     if m.caller == c then since_by m.act history (since c history) else since c history
 
+-- the turn first seen, after a step that may load the active word
 abbrev pub first_load : Touch → Option ℕ → Option ℕ
 first_load (Load Active word) old = seen old word
 first_load _ old = old
 
+-- the turn first seen, after an act: a draw forgets it
 abbrev pub first_by : Act → Touch → Option ℕ → Option ℕ
 first_by (Draw r) touch old = None
 first_by Step touch old = first_load touch old

@@ -12,6 +12,7 @@ pub record Words : Type 0 where
   pub grant : List ℕ
   pub done : List ℕ
 
+-- the words with this number in this word
 abbrev pub put : Words → Word → ℕ → Words
 put s (Wait r) v = record s { wait = slice_set s.wait r v }
 put s (Grant r) v = record s { grant = slice_set s.grant r v }
@@ -33,6 +34,7 @@ HasWord s (Grant r) = r < length s.grant
 HasWord s (Done r) = r < length s.done
 HasWord s Active = Unit {0}
 
+-- the step names a word that there is, and its sum fits 64 bits
 abbrev pub CanTouch : Words → Touch → Type 0
 CanTouch s (Add word old) = HasWord s word × (old + 1 < 2 ^ 64)
 CanTouch s (Load word value) = Unit {0}
@@ -50,6 +52,7 @@ held s Active = s.active
 abbrev pub listed : Words → List ℕ
 listed s = s.active ∷ (s.wait ++ (s.grant ++ s.done))
 
+-- the place of a word in the list, for m rooms
 abbrev pub place : ℕ → Word → ℕ
 place m Active = 0
 place m (Wait r) = 1 + r

@@ -17,6 +17,7 @@ two_rooms = Opened 1 0 0 1 ∷ Entered 0 0 ∷ Opened 2 1 0 1 ∷ Entered 1 1 �
 abbrev pub early_exit : List Item
 early_exit = Opened 1 0 0 2 ∷ Entered 0 0 ∷ Entered 1 0 ∷ Left 0 ∷ ExitBegun 0 ∷ []
 
+-- caller c draws a ticket of the room, after this many
 abbrev pub drew : ℕ → ℕ → ℕ → Moment
 drew c room old = record {
   caller = c;
@@ -24,6 +25,7 @@ drew c room old = record {
   event = record { touch = Add (Wait room) old; one = None; two = None };
 }
 
+-- caller c makes this step, and the trace gains this
 abbrev pub stepped : ℕ → Touch → Option Item → Moment
 stepped c touch item = record {
   caller = c;

@@ -1,3 +1,5 @@
+//! What a caller does, and why the core refuses it.
+
 /// What a caller does next.
 #[derive(Clone, Copy, Debug, PartialEq, Eq)]
 pub enum Act {

@@ -1,4 +1,4 @@
-// Laws of every run: each is the contract of a function that does nothing.
+//! Laws of every run: each is the contract of a function that does nothing.
 ghost use Rattle.std.specs.Prelude.{ℕ, ◌≤◌, ◌+◌, ◌≡◌, ◌↔◌, List, reverse, Option, Some};
 ghost use Rattle.room_core.specs.Machine.{phase_of};
 ghost use Rattle.room_core.specs.Runs.{Moment, run, start};

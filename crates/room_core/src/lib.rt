@@ -1,4 +1,4 @@
-// The pure protocol of a room synchronization: one act of one caller is one step on one word.
+//! The pure protocol of a room synchronization: one act of one caller is one step on one word.
 #![tactic(auto)]
 
 mod acts;

@@ -1,3 +1,4 @@
+//! The machine: a state, and what one act of one caller does.
 ghost use Rattle.std.specs.Prelude.{◌≡◌, ◌↔◌, false, ℕ, ◌<◌, ◌≤◌, ◌^◌, length, slice_index, slice_get, Err, IfOk, OnErr, IsNone, IsSome, IfSome};
 ghost use Rattle.std.specs.Option.{option_copied};
 ghost use Rattle.room_core.specs.Words.{CanTouch, HasWord, held};
@@ -51,7 +52,11 @@ impl Model for Core {
 
 impl Core {
     /// A core with 1 to 7 rooms and up to 64 callers: all its words are 0, every caller is out, and
-    /// none has drawn. It takes the memory of a whole run; `Err` is want of it.
+    /// none has drawn. It takes the memory of a whole run.
+    ///
+    /// # Errors
+    ///
+    /// Want of memory alone.
     pub fn new(alloc: Global, rooms: u8, callers: u32) -> Result<Core, AllocError>
         requires some { 0 < rooms }
         requires few { rooms ≤ 7 }
@@ -78,8 +83,12 @@ impl Core {
 
     /// Does the one step of the caller's act, and answers it with what the trace gains.
     ///
-    /// The time is the same for each number of callers and acts, and no memory is taken. A refusal
-    /// changes nothing; the reasons are tested in the order of `Refused`.
+    /// The time is the same for each number of callers and acts, and no memory is taken.
+    ///
+    /// # Errors
+    ///
+    /// `Refused` exactly where the act is refused, with the first reason in the order of `Refused`;
+    /// nothing is changed then.
     pub fn step(&mut self, caller: u64, act: Act) -> Result<Event, Refused>
         ensures event { result ≡ event_of (row_of self.old caller act) }
         ensures state { self.new ≡ state_after self.old caller act (row_of self.old caller act) }

@@ -1,3 +1,5 @@
+//! Where a caller stands between two of its acts.
+
 /// Where a caller stands between two of its acts.
 ///
 /// `room`, `k` and `next` are rooms; `ticket` is the caller's ticket of `room`, and 0 for one that

@@ -1,3 +1,4 @@
+//! Runs of acts, one after another, and their traces.
 ghost use Rattle.std.specs.Prelude.{◌≡◌, ◌<◌, ◌≤◌, ◌++◌, ℕ, length, option_to_list, IfOk, OnOk, Err};
 ghost use Rattle.room_core.specs.Runs.{run, start};
 ghost use Rattle.room_core.specs.Schedule.{AcceptsFirst, FirstRefused};
@@ -17,7 +18,9 @@ use std::alloc::{AllocError, Global};
 /// A core after a run, and the run's trace: the items of its events in their order.
 #[derive(Drop)]
 pub struct Ran {
+    /// The core after the last act.
     pub core: Core,
+    /// The items of the run's events, in their order.
     pub trace: Vec<Item>,
 }
 
@@ -44,8 +47,12 @@ impl From<AllocError> for RunFault {
 /// Runs the acts in their order, each a caller's number and what it does, from the start of 1 to 7
 /// rooms and up to 64 callers.
 ///
-/// It answers `RunFault::Act` exactly where the core refuses an act, with the first one, and
-/// `RunFault::Memory` where memory was wanting. The time grows with the number of acts alone.
+/// The time grows with the number of acts alone.
+///
+/// # Errors
+///
+/// `RunFault::Act` exactly where the core refuses an act, with the first one; `RunFault::Memory` for
+/// want of memory.
 pub fn run(alloc: Global, rooms: u8, callers: u32, acts: &[(u64, Act)]) -> Result<Ran, RunFault>
     requires some { 0 < rooms }
     requires few { rooms ≤ 7 }
@@ -94,7 +101,11 @@ fn push_item(trace: &mut Vec<Item>, item: Option<Item>) -> Result<(), AllocError
     Ok(())
 }
 
-/// The openings of a trace, in their order. `Err` is want of memory.
+/// The openings of a trace, in their order.
+///
+/// # Errors
+///
+/// Want of memory alone.
 pub fn openings(alloc: Global, trace: &[Item]) -> Result<Vec<Opening>, AllocError>
     ensures { IfOk result (λ openings. openings.items ≡ opened trace.now) }
 {

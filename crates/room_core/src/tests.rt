@@ -1,3 +1,4 @@
+//! Schedules and what they lead to, refusals, and the accessors.
 use crate::{
     Act, Core, Event, Item, Opening, Phase, Refused, RunFault, Touch, Word, openings, run,
 };

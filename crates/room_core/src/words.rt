@@ -1,3 +1,4 @@
+//! The words of the rooms, and one step on one of them.
 ghost use Rattle.std.specs.Prelude.{◌≡◌};
 ghost use Rattle.room_core.specs.Words.{put, touched, HasWord, CanTouch};
 

@@ -152,7 +152,11 @@ impl<U: RoomUse> Rooms<U> {
         ensures usage { result.usage ≡ self.usage }
         ensures left { IsLeft U.meaning self.usage self.callers seat.me.0.ended result.words.items result.slots.items }
     {
-        let Rooms { table, plan } = self;
+        let Rooms {
+            table,
+            plan,
+            patience: _,
+        } = self;
         let Plan { usage, callers: _ } = plan;
         let count = table.word_count();
         let mut closed = table.close_with(seat);

@@ -10,7 +10,6 @@ use crate::passes::Pass;
 use crate::polls::Polled;
 use crate::rooms::Rooms;
 use crate::waiting::Waiting;
-use crossbeam_utils::Backoff;
 use room_rule::RoomUse;
 use std::sync::Wait;
 
@@ -47,14 +46,17 @@ impl<U: RoomUse> Rooms<U> {
         ensures let_in { IsLetIn U.ROOMS result }
         ensures in_a_new_turn { U.meaning.last result.caller.user < result.opening.turn }
     {
-        let backoff = Backoff::new();
+        let mut pauses = self.patience.begin(self.plan.callers);
         let mut waiting = waiting;
         for _ in rt.forever() {
             match self.poll(waiting) {
-                Polled::Entered(inside) => return inside,
+                Polled::Entered(inside) => {
+                    pauses.end();
+                    return inside;
+                }
                 Polled::NotYet(still) => waiting = still,
             }
-            backoff.snooze();
+            pauses.pause(waiting.active);
         }
         unreachable!()
     }

@@ -4,6 +4,7 @@ ghost use Rattle.room_rule.specs.declared.views.Role.TheVariants.{Maker};
 ghost use Rattle.room_gate.specs.Making.{ArePasses, IsLaidOut};
 
 use crate::passes::Pass;
+use crate::patience::Patience;
 use crate::plays::Hires;
 use atomic_table::{Seat, Table};
 use room_rule::{Plan, RoomRule, RoomUse, Shown};
@@ -15,6 +16,7 @@ use std::marker::Model;
 pub struct Rooms<U: RoomUse> {
     pub(crate) table: Table<Option<U::Slot>, Shown<U::View>, Plan<U>, RoomRule<U>, Global>,
     pub(crate) plan: Plan<U>,
+    pub(crate) patience: Patience,
 }
 
 impl<U: RoomUse> Model for Rooms<U> {
@@ -66,7 +68,11 @@ impl<U: RoomUse> Rooms<U> {
         let plan = Plan { usage, callers };
         let slots = plan.usage.slots();
         let (table, maker) = Table::vacant(alloc, words.as_slice(), slots, &plan)?;
-        let rooms = Rooms { table, plan };
+        let rooms = Rooms {
+            table,
+            plan,
+            patience: Patience::new(),
+        };
         let passes = rooms.hire_all(alloc, maker, draws)?;
         Ok((rooms, passes))
     }

@@ -361,6 +361,15 @@ fn rooms_alone_leave_no_words_and_no_slots(rt: HostRuntime) -> Result<(), AllocE
     Ok(())
 }
 
+#[test]
+fn sixty_four_passes_close_their_rooms(rt: HostRuntime) -> Result<(), AllocError> {
+    let (rooms, passes) = Rooms::<Bare>::set_up(rt.alloc(), Bare, 64, 10)?;
+    assert_eq!(rt; passes.len(), 64);
+    let left = close_all(rt.alloc(), rooms, passes)?;
+    assert_eq!(rt; left, (0, 0));
+    Ok(())
+}
+
 // Puts a value into the slot that the insider keeps, and takes it out again.
 fn lend<U: RoomUse>(
     rooms: &Rooms<U>,

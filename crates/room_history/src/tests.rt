@@ -1,3 +1,4 @@
+//! Merges, checks and prints.
 use crate::{CheckFault, MergeFault, check, merge, print_entries, print_lists, print_state};
 use bay_core::{Entry, Layout, Op, Reply};
 use std::alloc::Global;

@@ -17,6 +17,7 @@ user_place m u = 1 + 3 * m + u
 abbrev pub Place : Type 0 → Type 0
 Place S = maybe.Option (Option S)
 
+-- slots, by their numbers
 abbrev pub Slots : Type 0 → Type 0
 Slots S = List (Place S)
 
@@ -32,6 +33,7 @@ pub record Own (S V : Type 0) : Type 0 where
   pub user : V
   pub held : Option (Option S)
 
+-- what a caller with this view and this in its slot has
 abbrev pub own : {S V : Type 0} → V → Option (Option S) → Own S V
 own user held = record { user = user; held = held }
 
@@ -71,6 +73,7 @@ pub record UserStep (S V : Type 0) : Type 0 where
   pub after : V
   pub contents : Option S
 
+-- the step of this caller, at this gate and content
 abbrev pub user_step : {S V : Type 0} → Content S V → Gate → ℕ → ℕ → ℕ → V → Option S
     → UserStep S V
 user_step s gate who word value after contents = record {

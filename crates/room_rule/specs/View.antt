@@ -115,6 +115,7 @@ known_by (Draw r) seen known = seen
 known_by Step seen known = known
 known_by Leave seen known = known
 
+-- how many draws a caller has made after an act
 abbrev pub drawn_by : Act → ℕ → ℕ
 drawn_by (Draw r) draws = draws + 1
 drawn_by Step draws = draws

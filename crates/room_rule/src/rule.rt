@@ -9,7 +9,9 @@ use std::marker::PhantomData;
 /// What a table of rooms is told when it is made.
 #[derive(Drop)]
 pub struct Plan<U> {
+    /// What the rooms are used for.
     pub usage: U,
+    /// How many callers there are, at most 64.
     pub callers: u32,
 }
 

@@ -1,3 +1,4 @@
+//! The words of rooms, and their places.
 use crate::{
     ACTIVE_PLACE, Bare, RoomUse, code_of, done_place, grant_place, pack,
     the_table_follows_the_protocol, turn_of, user_place, wait_place,

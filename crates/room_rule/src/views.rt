@@ -18,17 +18,23 @@ pub enum Role {
 
 /// A caller whose pass was joined away, with its last user view.
 pub struct Ended<W> {
+    /// The caller's number.
     pub who: u32,
+    /// Its last user view.
     pub user: W,
 }
 
 /// The view of one seat.
 pub struct Shown<W> {
+    /// Whose seat it is.
     pub role: Role,
     /// A caller's number; of the maker, how many passes it has made.
     pub who: u32,
+    /// A caller's phase.
     pub phase: Phase,
+    /// How many draws a caller has made.
     pub draws: u64,
+    /// A caller's user view.
     pub user: W,
     /// The openings that it has seen: the first part of the one list of openings.
     pub seen: LinkedList<Opening>,

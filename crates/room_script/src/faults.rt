@@ -1,3 +1,4 @@
+//! Why a text is not read.
 use std::alloc::AllocError;
 
 /// Why a text is not read.

@@ -1,3 +1,4 @@
+//! Laws of texts: each is the contract of a function that does nothing.
 ghost use Rattle.std.specs.Prelude.{◌≡◌, ◌⊎◌, ℕ, List};
 ghost use Rattle.room_script.specs.Breaks.{BreaksAt};
 ghost use Rattle.room_script.specs.Schedules.{Plan, Spells, IsSchedule};

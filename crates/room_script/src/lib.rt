@@ -1,4 +1,4 @@
-// Texts: lines, parts and numbers, the readers of schedules and trials, and the printer of a run.
+//! Texts: lines, parts and numbers, the readers of schedules and trials, and the printer of a run.
 #![tactic(auto)]
 
 mod faults;

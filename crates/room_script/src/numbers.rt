@@ -1,3 +1,4 @@
+//! Numbers in texts.
 ghost use Rattle.std.specs.Prelude.{◌≡◌, ℕ, ◌<◌, ◌↔◌, Some, IsTrue, length, slice_index, position};
 ghost use Rattle.room_script.specs.Lines.{is_space};
 ghost use Rattle.room_script.specs.Numbers.{IsNumber, IsNumberAfter, IsTwoNumbers};

@@ -1,3 +1,4 @@
+//! Lines and parts of a text.
 ghost use Rattle.std.specs.Prelude.{◌≡◌, ◌==◌, [], ◌∷◌, ◌++◌, IfOk, All, map, slice_index_or};
 ghost use Rattle.std.specs.List.{slice_split};
 ghost use Rattle.room_script.specs.Lines.{lines_of, parts_of, bytes_at, IsRange, StandAt};
@@ -14,7 +15,11 @@ pub struct Piece {
 }
 
 /// The lines of a text, in order and without their newlines: it is cut at each newline. A newline
-/// that ends the text begins no further line, and an empty text has no lines. Fails only by memory.
+/// that ends the text begins no further line, and an empty text has no lines.
+///
+/// # Errors
+///
+/// Want of memory alone.
 pub fn lines(alloc: Global, text: &[u8]) -> Result<Vec<Piece>, AllocError>
     ensures { IfOk result (λ v. StandAt text.now 0 (lines_of text.now) v.items) }
 {
@@ -30,7 +35,11 @@ pub fn lines(alloc: Global, text: &[u8]) -> Result<Vec<Piece>, AllocError>
 }
 
 /// The parts of a line, in order: it is cut at each space. Two spaces together have an empty part
-/// between them, and an empty line has one empty part. Fails only by memory.
+/// between them, and an empty line has one empty part.
+///
+/// # Errors
+///
+/// Want of memory alone.
 pub fn parts(alloc: Global, text: &[u8], line: Piece) -> Result<Vec<Piece>, AllocError>
     requires { IsRange text.now line }
     ensures { IfOk result

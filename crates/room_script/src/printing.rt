@@ -1,3 +1,4 @@
+//! The text of a run.
 ghost use Rattle.std.specs.Prelude.{◌≡◌, ◌++◌, OnOk, IfOk, string_bytes, codes};
 ghost use Rattle.room_script.specs.Prints.{active_line, item_line, phase_name, caller_line, run_lines, text_of};
 
@@ -6,7 +7,11 @@ use std::alloc::{AllocError, Global};
 use std::fmt::Write;
 
 /// The text of a run: a line for each item of its trace, the active word, and a line for each
-/// caller with the name of its phase. Each line ends with a newline. Fails only by memory.
+/// caller with the name of its phase. Each line ends with a newline.
+///
+/// # Errors
+///
+/// Want of memory alone.
 pub fn print_run(alloc: Global, ran: &Ran) -> Result<Vec<u8>, AllocError>
     ensures { IfOk result
         (λ text. text.items ≡ text_of (run_lines ran.now.core ran.now.trace.items)) }

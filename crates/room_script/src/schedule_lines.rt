@@ -1,3 +1,4 @@
+//! The lines of a schedule.
 ghost use Rattle.std.specs.Prelude.{◌≡◌, ℕ, ◌↔◌, Some, IsTrue, codes};
 ghost use Rattle.room_script.specs.Schedules.{IsRooms, IsCallers, IsAct, rooms_line, callers_line, act_line};
 

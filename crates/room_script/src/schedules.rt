@@ -1,3 +1,4 @@
+//! The reader of schedules.
 ghost use Rattle.std.specs.Prelude.{◌≡◌, ◌⊎◌, ℕ, [], Err, IfOk, IfErr, MatchResult, IsErrAnd, All, map, take};
 ghost use Rattle.room_script.specs.Breaks.{BreaksAt};
 ghost use Rattle.room_script.specs.Lines.{lines_of, bytes_at, IsRange};
@@ -44,10 +45,12 @@ fn read_head(text: &[u8], lines: &[Piece]) -> Result<(u8, u32), ScriptFault>
 
 /// Reads the text of a schedule. Its lines are `schedule 1`, `rooms M` with M from 1 to 7 and
 /// `callers N` with N from 1 to 64, and then one for each act: `draw C R`, `step C` or `leave C`,
-/// with any numbers C and R of 64 bits. Answers `Line` exactly where the text has another form,
-/// with the number of the first line that breaks it; one that is missing has the number after the
-/// last.
-/// Answers `Memory` where there is none left.
+/// with any numbers C and R of 64 bits. It takes memory.
+///
+/// # Errors
+///
+/// `Line` exactly where the text has another form, with the number of the first line that breaks it;
+/// one that is missing has the number after the last. `Memory` for want of memory.
 pub fn read_schedule(alloc: Global, text: &[u8]) -> Result<Schedule, ScriptFault>
     ensures read { IfOk result (λ s. Spells (lines_of text.now) (plan_of s)) }
     ensures found { (p : Plan) → Spells (lines_of text.now) p

@@ -1,3 +1,4 @@
+//! Texts that are read, and the first lines that break the rules.
 use crate::{Line, Piece, ScriptFault, lines, number, parts, print_run, read_schedule, read_trial};
 use bay_core::Layout;
 use room_core::{Act, Refused, RunFault, run};

@@ -1,3 +1,4 @@
+//! The lines of a trial.
 ghost use Rattle.std.specs.Prelude.{◌≡◌, ℕ, ◌↔◌, Some, IsTrue, codes};
 ghost use Rattle.bay_core.specs.declared.calls.Layout.{Layout};
 ghost use Rattle.room_script.specs.declared.trials.Line.{Line};

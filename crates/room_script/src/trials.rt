@@ -1,3 +1,4 @@
+//! Trials, and their reader.
 ghost use Rattle.std.specs.Prelude.{◌≡◌, ◌⊎◌, ℕ, [], ◌∷◌, true, false, Err, IfOk, IfErr, MatchResult, IsErrAnd, All, map, take};
 ghost use Rattle.room_script.specs.Breaks.{BreaksAt};
 ghost use Rattle.room_script.specs.Lines.{lines_of, bytes_at, IsRange};

@@ -20,8 +20,11 @@ use work_pool::Gate;
 /// order, each once: of all lines for which it had a draw. Before line i of caller c the gate is asked
 /// with c and i, both counted from 0.
 ///
-/// The error is want of memory alone; calls may have been made then, and the bay may be dropped and not
-/// closed. It waits for the callers.
+/// It waits for the callers.
+///
+/// # Errors
+///
+/// Want of memory alone; calls may have been made then, and the bay may be dropped and not closed.
 pub fn trial<R: Threads + Wait + Sync, G: Gate + Sync>(
     rt: &R,
     alloc: Global,

@@ -12,6 +12,9 @@ use std::test::Fail;
 use std::thread::Threads;
 use work_pool::{Gate, OpenGate};
 
+mod hostile;
+mod large;
+
 /// The bytes of an image: its magic, and then these numbers.
 fn image(alloc: Global, numbers: &[u64]) -> Result<Vec<u8>, AllocError> {
     let mut bytes = Vec::from_slice(alloc, b"ROOMIMG1")?;
@@ -398,41 +401,6 @@ fn mark_of_a_made_image_reads_nothing(rt: HostRuntime) -> Result<(), Fail> {
 }
 
 #[test]
-fn crews_compact_a_large_image_alike(rt: HostRuntime) -> Result<(), Fail> {
-    let alloc = rt.alloc();
-    let mut made = Attempt::new(&["make", "100000", "1"], b"");
-    made.room = 4_000_000;
-    let made = made.ended(&rt, alloc)?;
-    assert_eq!(rt; made.status, Status::Good);
-    let mut alone = Attempt::new(&["compact"], made.sink.written());
-    alone.room = 4_000_000;
-    let alone = alone.ended(&rt, alloc)?;
-    assert_eq!(rt; alone.status, Status::Good);
-    // 24 bytes, and 8 for each of 166937 words and 16 roots
-    assert_eq!(rt; alone.sink.written().len(), 1335648);
-    let crews: [&[&str]; 2] = [
-        &["compact", "--workers", "4", "--blocks", "2"],
-        &[
-            "compact",
-            "--workers",
-            "4",
-            "--blocks",
-            "2",
-            "--layout",
-            "paged",
-        ],
-    ];
-    for words in crews {
-        let mut together = Attempt::new(words, made.sink.written());
-        together.room = 4_000_000;
-        let together = together.ended(&rt, alloc)?;
-        assert_eq!(rt; together.status, Status::Good);
-        assert!(rt; together.sink.written() == alone.sink.written());
-    }
-    Ok(())
-}
-
-#[test]
 fn each_status_has_its_number(rt: HostRuntime) -> Result<(), Fail> {
     let fault = ImageFault::new(ImageKind::Short, 23, 24);
     let cases = [
@@ -482,6 +450,8 @@ fn schedule_prints_the_run(rt: HostRuntime) -> Result<(), Fail> {
         "schedule 1\nrooms 2\ncallers 3\ndraw 0 0\nstep 0\nstep 0\nstep 0\nstep 0\nstep 0\ndraw 1 0\ndraw 2 1\nleave 0\nstep 0\nstep 0\nstep 0\nstep 0\nstep 0\nstep 2\nstep 2\n";
     let idle =
         "schedule 1\nrooms 2\ncallers 2\ndraw 0 0\nstep 0\nstep 0\nstep 0\nstep 0\nstep 0\nleave 0\nstep 0\ndraw 1 1\nstep 0\nstep 0\nstep 0\nstep 0\nstep 1\nstep 1\nstep 1\nstep 1\nstep 1\n";
+    let again =
+        "schedule 1\nrooms 2\ncallers 2\ndraw 0 0\nstep 0\nstep 0\nstep 0\nstep 0\nstep 0\ndraw 1 0\nstep 1\nstep 1\nleave 0\nstep 0\nstep 0\nstep 0\nstep 0\nstep 0\nstep 0\nstep 0\nstep 1\nstep 1\n";
     let cases = [
         (one, "open 1 0 0 1\nenter 0 0\nactive 9\ncaller 0 Inside\n"),
         (
@@ -495,6 +465,11 @@ fn schedule_prints_the_run(rt: HostRuntime) -> Result<(), Fail> {
         (
             idle,
             "open 1 0 0 1\nenter 0 0\nleave 0\nexit 0 begin\nexit 0 end\nopen 2 1 0 1\nenter 1 1\nactive 18\ncaller 0 Out\ncaller 1 Inside\n",
+        ),
+        // who leaves finds room 1 without a waiter, and opens room 0 again for the late ticket
+        (
+            again,
+            "open 1 0 0 1\nenter 0 0\nleave 0\nexit 0 begin\nexit 0 end\nopen 2 0 1 2\nenter 1 0\nactive 17\ncaller 0 Out\ncaller 1 Inside\n",
         ),
     ];
     for (text, output) in cases {

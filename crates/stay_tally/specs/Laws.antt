@@ -17,6 +17,7 @@ not_true e = cc
 none_kept : {k : ℕ} → None ≡ Some k → ⊥
 none_kept e = cc
 
+-- who has counted no stay counted none in any room
 pub none_counted : (r : ℕ) → r < 4 → counted_in r newcomer ≡ 0
 none_counted zero h = refl
 none_counted (suc zero) h = refl
@@ -125,6 +126,7 @@ steps x s room turn ins who v word value after contents h there may =
     })) (λ i. (is i, (value i, view i)))
     (tallies_after s who room turn v h.lawful h.view r_is later small)
 
+-- the meaning fits together
 pub tallied_laws : Laws tallied
 tallied_laws = record {
   starts = starts;

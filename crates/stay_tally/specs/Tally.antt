@@ -49,6 +49,7 @@ pub record Counts (room : ℕ) (s : UserStep (Unit {0}) Stays) : Type 0 where
 abbrev pub newcomer : Stays
 newcomer = record { counted = 0 ∷ 0 ∷ 0 ∷ 0 ∷ []; last = 0 }
 
+-- the meaning: four words, no slots, and steps that count a stay in the room that the caller is in
 abbrev pub tallied : Meaning Tally (Unit {0}) Stays
 tallied = record {
   words = λ x. 4;

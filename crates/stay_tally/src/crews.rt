@@ -88,8 +88,11 @@ fn in_threads<R: Threads + Wait + Sync>(
 /// and closes the rooms. The answer is the four words: how many stays were counted in each room. Where
 /// `spread` is set, caller c makes its stay k in room (c + k) % 4, and else all stays are in room 0.
 ///
-/// The error is want of memory alone; where it comes at the close, all stays were made. It waits
-/// for the callers, each of which runs in a thread of its own where one can be made.
+/// It waits for the callers, each of which runs in a thread of its own where one can be made.
+///
+/// # Errors
+///
+/// Want of memory alone; where it comes at the close, all stays were made.
 pub fn tally<R: Threads + Wait + Sync>(
     rt: &R,
     alloc: Global,

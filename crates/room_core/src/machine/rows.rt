@@ -1,4 +1,4 @@
-// One function a row, in the order of the table: what the step finds, and so the next phase.
+//! One function a row, in the order of the table: what the step finds, and so the next phase.
 ghost use Rattle.std.specs.Prelude.{◌≡◌, ◌<◌, ◌^◌, ◌*◌, ◌+◌, length, IfSome, Some, None};
 ghost use Rattle.room_core.specs.Active.{turn_of, code_of, pack, seen};
 ghost use Rattle.room_core.specs.Moves.{looking_move, glancing_move, seizing_move, counting_move, admitting_move, turning_move, exiting_move, peering_move, scanning_move, passing_move};

@@ -9,7 +9,7 @@ of_word-requires c =
     let within : 1048576 < length heads = omega (arith, c.if-len-gt-MOST_OBJECTS.true, c.len.ensures) in
     omega (
       arith,
-      Fill-fits c.args.words.now heads c.in_ok-heads.ensures.fill 1048576 within,
+      Fill-fits c.args.format c.args.words.now heads c.in_ok-heads.ensures.fill 1048576 within,
       get_or_default heads 1048576 c.index.result.now 0 within,
       c.index.ensures,
     )

@@ -5,7 +5,7 @@ use Rattle.image_core.proofs.walk.walk.Given as goal
 abbrev pub invariant-loop-at : goal.invariant-loop-at
 invariant-loop-at l = record {
   within : l.at ≤ length l.words;
-  stand : Stand l.words 0 l.heads.items l.at;
+  stand : Stand l.format l.words 0 l.heads.items l.at;
 }
 
 abbrev pub decreases-loop-at : goal.decreases-loop-at

@@ -13,11 +13,11 @@ returns-in_err-frame-clause-told c = λ fault fails.
     rw (refused.1, refused.2) (told_once _ fault (Fault c.in_err-frame.field-0.0) fails c.in_err-frame.ensures.fault)
 
 pub returns-clause-fault : goal.returns-clause-fault
-returns-clause-fault c = IfErr-spelled _ _ _ c.lawful.result c.in_ok-words.ensures c.lawful.ensures.fault
+returns-clause-fault c = IfErr-spelled _ _ _ _ c.lawful.result c.in_ok-words.ensures c.lawful.ensures.fault
 
 pub returns-clause-found : goal.returns-clause-found
-returns-clause-found c = λ heap image. c.lawful.ensures.found heap (IsHeapOf-spelled _ _ _ heap c.in_ok-words.ensures image)
+returns-clause-found c = λ heap image. c.lawful.ensures.found heap (IsHeapOf-spelled _ _ _ _ heap c.in_ok-words.ensures image)
 
 pub returns-clause-told : goal.returns-clause-told
 returns-clause-told c = λ fault fails.
-    c.lawful.ensures.told fault (spelled_of_fault _ _ _ c.in_ok-words.ensures fault.kind fault.place fault.value fails)
+    c.lawful.ensures.told fault (spelled_of_fault _ _ _ _ c.in_ok-words.ensures fault.kind fault.place fault.value fails)
