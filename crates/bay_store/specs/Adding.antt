@@ -22,6 +22,7 @@ pub record Known : Type 0 where
   pub old : ℕ
   pub quiet_at : Option ℕ
 
+-- what of a caller does not rest on its draws and shares
 abbrev pub known : BayView → Known
 known v = record {
   seen = v.seen;

@@ -1,3 +1,4 @@
+//! The tests of words and roots, in their order: the first that fails is told.
 ghost use Rattle.std.specs.Prelude.{◌≤◌, ◌^◌, length, All, IfOk, IfErr, IfSome, IfNone};
 ghost use Rattle.image_core.specs.Header.{IsFormat};
 ghost use Rattle.image_core.specs.Heap.{IsLawful, Fill, Names, EachReferenceNames};

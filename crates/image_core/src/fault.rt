@@ -1,3 +1,4 @@
+//! Which test of an image failed, and where.
 use std::alloc::{AllocError, AllocFailed};
 
 /// Which test of an image failed, in the order of the tests. The first five are of bytes alone.
@@ -29,8 +30,11 @@ pub enum ImageKind {
 /// The first test that failed, where, and the value there, as its kind says.
 #[derive(Debug, Clone, Copy, PartialEq, Eq)]
 pub struct ImageFault {
+    /// The test that failed.
     pub kind: ImageKind,
+    /// Where it failed: the number of a byte, a word or a root, as the kind says.
     pub place: u64,
+    /// What stands there, as the kind says.
     pub value: u64,
 }
 

@@ -1,3 +1,4 @@
+//! What the header of an object counts, by the format.
 ghost use Rattle.std.specs.Prelude.{◌≡◌, ◌<◌, ◌^◌};
 ghost use Rattle.image_core.specs.Header.{refs_of, weak_of, plain_of, tag_of, names_of, size_of};
 

@@ -1,3 +1,4 @@
+//! A lawful image, and what a caller sees of it.
 ghost use Rattle.std.specs.Prelude.{◌≡◌, ◌+◌, ◌<◌, ◌≤◌, ◌^◌, length, slice_index, IfOk, IfErr, MatchResult, vec_len};
 
 use crate::check::headers;

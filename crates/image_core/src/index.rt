@@ -1,3 +1,4 @@
+//! Where the headers stand, and whose header a word is.
 ghost use Rattle.std.specs.Prelude.{ℕ, ◌≡◌, ◌<◌, ◌≤◌, ◌^◌, ◌↔◌, length, slice_index, IsTrue, IfOk};
 ghost use Rattle.image_core.specs.Heap.{Fill, Names};
 ghost use Rattle.image_core.specs.Index.{IsIndex};

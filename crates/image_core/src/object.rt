@@ -1,3 +1,4 @@
+//! One object of an image.
 ghost use Rattle.std.specs.Prelude.{◌≡◌, ◌+◌, ◌<◌, length, slice_index};
 ghost use Rattle.image_core.specs.Object.{Fits, refs_at, references_at, weak_references_at, naming_at, data_at};
 
@@ -6,10 +7,15 @@ use crate::header::{names, plain, refs, size, tag, weak};
 /// An object: where its header stands, how many reference, weak and data words follow, and its tag.
 #[derive(Debug, Clone, Copy, PartialEq, Eq)]
 pub struct Obj {
+    /// The number of its header word, below 2^22.
     pub at: u32,
+    /// How many reference words follow the header, below 2^16.
     pub refs: u32,
+    /// How many weak words follow those, below 2^16; none in format 1.
     pub weak: u32,
+    /// How many data words follow those, below 2^16.
     pub plain: u32,
+    /// The tag: 32 bits in format 1, 16 in format 2.
     pub tag: u32,
 }
 

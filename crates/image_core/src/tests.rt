@@ -1,3 +1,4 @@
+//! Worked images of both formats, and the first test that each bad one fails.
 ghost use Rattle.std.specs.Prelude.{◌<◌, ◌≤◌, ◌^◌, length};
 ghost use Rattle.image_core.specs.Header.{IsFormat};
 

@@ -1,3 +1,4 @@
+//! The walk over the words from header to header.
 ghost use Rattle.std.specs.Prelude.{ℕ, ◌≤◌, ◌^◌, List, length, IfOk, IfErr};
 ghost use Rattle.image_core.specs.Heap.{Fill};
 ghost use Rattle.image_core.specs.Fault.{HasFault, OnFault};

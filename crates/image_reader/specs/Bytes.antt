@@ -13,6 +13,7 @@ digit_of format = 48 + format
 abbrev pub name_bytes : List ℕ
 name_bytes = codes "ROOMIMG"
 
+-- the magic of a format
 abbrev pub magic_bytes : ℕ → List ℕ
 magic_bytes format = name_bytes ++ digit_of format ∷ []
 
@@ -20,6 +21,7 @@ magic_bytes format = name_bytes ++ digit_of format ∷ []
 abbrev pub word_bytes : ℕ → List ℕ
 word_bytes word = to_le_bytes w64 word
 
+-- the bytes of these words, the lowest byte of each first
 abbrev pub spelled : List ℕ → List ℕ
 spelled words = flat_map word_bytes words
 

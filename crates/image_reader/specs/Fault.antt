@@ -20,6 +20,7 @@ format_said bytes = slice_index bytes 7 - digit_of 0
 abbrev pub words_said : List ℕ → ℕ
 words_said bytes = word_at bytes 8
 
+-- the number of roots that the frame says
 abbrev pub roots_said : List ℕ → ℕ
 roots_said bytes = word_at bytes 16
 

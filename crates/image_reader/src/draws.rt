@@ -1,3 +1,4 @@
+//! The draws from a seed.
 ghost use Rattle.std.specs.Prelude.{◌≡◌, ◌<◌, ◌/◌, ◌%◌, ◌^◌};
 ghost use Rattle.image_reader.specs.Draws.{next};
 

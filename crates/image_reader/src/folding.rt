@@ -1,3 +1,4 @@
+//! One number of an image, for comparing two.
 ghost use Rattle.std.specs.Prelude.{◌≡◌};
 ghost use Rattle.std.specs.List.{fold};
 ghost use Rattle.image_reader.specs.Folding.{with_word, fold_of};

@@ -1,3 +1,4 @@
+//! The frame of the bytes of an image: magic, counts and length.
 ghost use Rattle.std.specs.Prelude.{◌≡◌, ◌≤◌, length, IfOk, IfErr, IfSome, IfNone};
 ghost use Rattle.image_reader.specs.Fault.{HasFault, HasMagic, IsOtherMagic};
 
@@ -15,8 +16,11 @@ const MOST_ROOTS: u64 = 1 << 16;
 /// The format of the bytes of an image, and how many words and roots they spell.
 #[derive(Clone, Copy)]
 pub struct Frame {
+    /// The format, 1 or 2.
     pub format: u8,
+    /// How many heap words follow, at most 2^22.
     pub words: usize,
+    /// How many roots follow those, at most 2^16.
     pub roots: usize,
 }
 

@@ -1,3 +1,4 @@
+//! Images that are made up by rule from a seed.
 ghost use Rattle.std.specs.Prelude.{◌≡◌, ◌≤◌, ◌^◌, IfOk};
 ghost use Rattle.image_reader.specs.Made.{made};
 

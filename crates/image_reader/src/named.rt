@@ -1,3 +1,4 @@
+//! The references and the roots of an image that is made up.
 ghost use Rattle.std.specs.Prelude.{◌≡◌, ◌<◌, ◌++◌, map, min, length, IfOk, OnOk};
 ghost use Rattle.image_reader.specs.Draws.{after, draws};
 ghost use Rattle.image_reader.specs.Made.{reference, root};

@@ -1,3 +1,4 @@
+//! The heap words of an image that is made up.
 ghost use Rattle.std.specs.Prelude.{◌≡◌, ◌≤◌, ◌+◌, ◌^◌, ◌∷◌, ◌++◌, map, IfOk, OnOk};
 ghost use Rattle.image_reader.specs.Draws.{after, draws};
 ghost use Rattle.image_reader.specs.Made.{refs, data_words, body, header, reference, drawn_before};

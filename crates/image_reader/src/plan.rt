@@ -1,3 +1,4 @@
+//! How large each object of an image that is made up is, and where it stands.
 ghost use Rattle.std.specs.Prelude.{◌≡◌, ◌≤◌, ◌^◌, IfOk, OnOk};
 ghost use Rattle.image_reader.specs.Draws.{after};
 

@@ -1,3 +1,4 @@
+//! The image that bytes are.
 ghost use Rattle.std.specs.Prelude.{◌≡◌, IfOk, IfErr, MatchResult};
 ghost use Rattle.image_core.specs.Heap.{Heap};
 ghost use Rattle.image_core.specs.Fault.{OnFault, Tells};

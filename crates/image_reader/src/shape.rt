@@ -1,3 +1,4 @@
+//! What the draw of a header says of its object.
 ghost use Rattle.std.specs.Prelude.{◌≡◌, ◌≤◌, ◌<◌, ◌^◌};
 ghost use Rattle.image_reader.specs.Made.{refs, data_words, body, header};
 

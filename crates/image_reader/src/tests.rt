@@ -1,3 +1,4 @@
+//! Worked images as bytes, read, written and made up.
 use crate::{fold, make_image, read_image, write_image};
 use image_core::{ImageFault, ImageKind, ReadImage};
 use std::alloc::{AllocError, Global};

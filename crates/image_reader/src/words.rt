@@ -1,3 +1,4 @@
+//! Words, and the eight bytes that spell each.
 ghost use Rattle.std.specs.Prelude.{◌≡◌, ◌<◌, ◌^◌, ◌+◌, ◌*◌, ◌≤◌, ◌++◌, length, slice_range, IfOk, OnOk, vec_len};
 ghost use Rattle.image_reader.specs.Bytes.{word_bytes, spelled, AreWords};
 ghost use Rattle.image_reader.specs.Fault.{word_at};

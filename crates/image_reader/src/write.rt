@@ -1,3 +1,4 @@
+//! The bytes of an image.
 ghost use Rattle.std.specs.Prelude.{◌≡◌, IfOk};
 ghost use Rattle.image_core.specs.Heap.{Heap};
 ghost use Rattle.image_reader.specs.Bytes.{IsImage};

@@ -7,6 +7,7 @@ use Rattle.image_slide.specs.Parts.{IsSlid}
 use Rattle.image_slide.specs.Sliding.{Sliding, pieces_first}
 use Rattle.image_slide.specs.declared.sliders.Slider.TheInside.{Inside}
 
+-- what a slider shows
 abbrev pub sliding_of : Inside → Sliding
 sliding_of s = record {
   heap = s.image.now;
@@ -23,6 +24,7 @@ sliding_of s = record {
   };
 }
 
+-- what holds of each slider
 pub record IsSlider (s : Inside) : Type 0 where
   pub at : s.at ≤ length s.came.items
   pub kept : length s.kept.items ≤ s.space

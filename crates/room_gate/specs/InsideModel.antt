@@ -17,6 +17,7 @@ insider_of i = record {
   held = held_in i.seat.me.1;
 }
 
+-- what holds of each caller inside
 pub record IsInside (rooms : ℕ) {X S V : Type 0} (M : Meaning X S V) (i : Inside X V S) : Type 0 where
   pub of : IsOf i.seat i.who i.draws i.limit
   pub phase : i.seat.me.0.phase ≡ phases.Inside i.room i.ticket (Some i.first) i.turn i.to

@@ -14,6 +14,7 @@ holder_of k = record {
   words = k.seat.me.0.kept;
 }
 
+-- what holds of each key
 pub record IsKey (rooms : ℕ) {X S V : Type 0} (k : Inside X V S) : Type 0 where
   pub of : IsOf k.seat k.who k.draws k.limit
   pub phase : k.seat.me.0.phase ≡ Exiting k.room k.turn

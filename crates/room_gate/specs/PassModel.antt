@@ -30,9 +30,11 @@ pub record IsOf {S V : Type 0} (seat : Seat (Option S) (Shown V))
   pub limited : drawn ≤ most
   pub small : most ≤ 2 ^ 48
 
+-- what a pass shows
 abbrev pub caller_of : {X S V : Type 0} → Inside X V S → Caller V
 caller_of p = seen_of p.seat p.who p.draws p.limit
 
+-- what holds of each pass
 pub record IsOut {X S V : Type 0} (p : Inside X V S) : Type 0 where
   pub of : IsOf p.seat p.who p.draws p.limit
   pub phase : p.seat.me.0.phase ≡ Out

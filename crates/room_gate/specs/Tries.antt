@@ -47,6 +47,7 @@ module _ {X S V : Type 0} (M : Meaning X S V) (rooms room ticket : ℕ) (first :
   MatchTried (In f turn to) = TriedIn f turn to
   MatchTried (Barred f grant active found) = TriedOut f grant active found
 
+-- the try found the room open
 abbrev pub IsTriedIn : Tried → Type 0
 IsTriedIn (In f turn to) = Unit {0}
 IsTriedIn (Barred f grant active found) = ⊥

@@ -5,6 +5,7 @@ use Rattle.room_gate.specs.Shows.{Waiter}
 use Rattle.room_gate.specs.PassModel.{seen_of, IsOf}
 use Rattle.room_gate.specs.declared.waiting.Waiting.TheInside.{Inside}
 
+-- what a waiting caller shows
 abbrev pub waiter_of : {X S V : Type 0} → Inside X V S → Waiter V
 waiter_of w = record {
   caller = seen_of w.seat w.who w.draws w.limit;
@@ -17,6 +18,7 @@ waiter_of w = record {
   phase = w.seat.me.0.phase;
 }
 
+-- what holds of each waiting caller
 pub record IsWaiting (rooms : ℕ) {X S V : Type 0} (w : Inside X V S) : Type 0 where
   pub of : IsOf w.seat w.who w.draws w.limit
   pub phase : w.seat.me.0.phase ≡ Looking w.room w.ticket w.first

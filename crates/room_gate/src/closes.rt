@@ -17,6 +17,7 @@ use std::alloc::{AllocError, Global};
 /// What is left of rooms that were closed.
 #[derive(Drop)]
 pub struct Final<U: RoomUse> {
+    /// The use that the rooms were set up for.
     pub usage: U,
     /// The user words, in their order.
     pub words: Vec<u64>,

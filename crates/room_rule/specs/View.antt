@@ -76,34 +76,39 @@ module _ {V : Type 0} where
   abbrev pub taken_in : Shown V → Shown V → Shown V
   taken_in v pass = record v { ended = record { who = pass.who; user = pass.user } ∷ v.ended }
 
--- what a load of a grant, a load of the active word, an exchange and a departure leave
+-- the grant that the caller saw last, after a touch
 abbrev grant_in : Touch → ℕ → ℕ
 grant_in (Load (Grant r) n) old = n
 grant_in _ old = old
 
+-- the active word that the caller saw last, after a touch
 abbrev active_in : Touch → ℕ → ℕ
 active_in (Load Active n) old = n
 active_in _ old = old
 
+-- what its swap found since it last loaded a grant, after a touch
 abbrev found_in : Touch → Option ℕ → Option ℕ
 found_in (Load (Grant r) n) old = None
 found_in (Swap found new won) old = Some found
 found_in _ old = old
 
+-- the done word that it saw last, after a touch
 abbrev done_in : Touch → ℕ → ℕ
 done_in (Add (Done r) n) old = n
 done_in _ old = old
 
+-- how often it loaded the active word, after a touch
 abbrev loads_in : Touch → ℕ → ℕ
 loads_in (Load Active n) old = old + 1
 loads_in _ old = old
 
--- a draw forgets the words of the try before; another act keeps what its step leaves
+-- a word of the try before, after an act: a draw forgets it, and another act keeps what its step leaves
 abbrev word_by : Act → ℕ → ℕ
 word_by (Draw r) kept = 0
 word_by Step kept = kept
 word_by Leave kept = kept
 
+-- what its swap found, after an act of a caller
 abbrev found_by : Act → Option ℕ → Option ℕ
 found_by (Draw r) kept = None
 found_by Step kept = kept

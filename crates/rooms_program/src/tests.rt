@@ -1,3 +1,4 @@
+//! Whole runs of the program over devices in memory.
 use crate::{Status, check_run, make_run, run, schedule_run};
 use crossbeam_utils::Backoff;
 use image_core::{ImageFault, ImageKind};
