@@ -23,7 +23,7 @@ pub(crate) struct Moved {
 }
 
 /// The image with its live objects alone, in order and without gaps. `live` has a value for each
-/// object: whether it is live.
+/// object: whether it is live. The format stays, and a weak word becomes 0 where its object is not live.
 ///
 /// It takes memory for the new image and for a table of new places, and fails only where memory runs
 /// out.
