@@ -102,6 +102,6 @@ none_placed format words live n table places numbers count table_is none numbers
 -- all of them have their places
 pub all_placed : (format : ℕ) (words live : List ℕ) (n next : ℕ) (table places numbers : List ℕ) → drop n live ≡ []
     → Placing format words live n next table places numbers → (take n live ≡ live) × (n ≡ length live)
-all_placed words live n next table places numbers none p =
+all_placed format words live n next table places numbers none p =
     let all : take n live ≡ live = take_all n live (omega (arith, length-drop n live, ap length none)) in
     (all, omega (arith, p.many, ap length p.places_are, length-map (take n live) (new_place format words live), ap length all))

@@ -42,6 +42,13 @@ overflow_add-next c =
     let inv = c.loop-head.invariant in let steps = c.in-Some.ensures.steps in let head : ℕ = c.in-Some.head.now in
     let one = next_placed _ _ _ _ _ _ _ _ c.requires.order inv.placing head _
     (inv.rest ∙ kept_next head c.in-Some.marked.now _ _ _ _ steps.0 steps.1 c.if-marked.true) in
+    omega (arith, one.fits, c.requires.few)
+
+pub overflow_add-next-then-marked : goal.overflow_add-next-then-marked
+overflow_add-next-then-marked c =
+    let inv = c.loop-head.invariant in let steps = c.in-Some.ensures.steps in let head : ℕ = c.in-Some.head.now in
+    let one = next_placed _ _ _ _ _ _ _ _ c.requires.order inv.placing head _
+    (inv.rest ∙ kept_next head c.in-Some.marked.now _ _ _ _ steps.0 steps.1 c.if-marked.true) in
     omega (arith, one.fits, c.size.ensures.value, c.requires.few)
 
 pub loop-head-init : goal.loop-head-init
