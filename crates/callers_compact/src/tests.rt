@@ -26,7 +26,18 @@ fn the_dead_object_goes(rt: HostRuntime) -> Result<(), AllocError> {
         // the third object is named by a reference and the second by a weak word
         (
             b"ROOMIMG2",
-            &[7, 1, 1970329131941889, 6, 4, 2251799813750784, 99, 2533279085363200, 1, 1],
+            &[
+                7,
+                1,
+                1970329131941889,
+                6,
+                4,
+                2251799813750784,
+                99,
+                2533279085363200,
+                1,
+                1,
+            ],
             &[5, 1, 1970329131941889, 4, 0, 2533279085363200, 1, 1],
         ),
     ];
