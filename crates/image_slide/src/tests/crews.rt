@@ -83,7 +83,9 @@ fn spent_passes_leave_pieces_that_are_moved_all_the_same(rt: HostRuntime) -> Res
 }
 
 #[test]
-fn an_image_without_objects_keeps_its_format_and_its_null_roots(rt: HostRuntime) -> Result<(), Fail> {
+fn an_image_without_objects_keeps_its_format_and_its_null_roots(
+    rt: HostRuntime,
+) -> Result<(), Fail> {
     let alloc = rt.alloc();
     let roots = vec![in alloc; 0u64, 0]?;
     let image = Image::lawful(alloc, 2, Vec::new(alloc), roots)?;
