@@ -1,10 +1,11 @@
 //! A program that prints the history of a bay, and times its calls.
 //!
 //! With the words `stack N` or `queue N` it writes to standard error what a call takes where each
-//! thread puts N items and takes as many. With the words `history CALLERS CALLS` it prints the entries
-//! of all calls and what the bay had left; there are at most 64 callers. After these words two more may
-//! stand, `split` or `paged` and the number of blocks; without them it is `split 64`. With no word it
-//! makes small histories and checks them.
+//! thread puts N items and takes as many, with 1, 2, 4, 8 and 16 threads; a third word is a number of
+//! threads, from 1 to 64, which is then timed alone. With the words `history CALLERS CALLS` it prints
+//! the entries of all calls and what the bay had left; there are at most 64 callers. After these words
+//! two more may stand, `split` or `paged` and the number of blocks; without them it is `split 64`. With
+//! no word it makes small histories and checks them.
 #![tactic(auto)]
 
 ghost use Rattle.std.specs.Prelude.{IfOk, IfSome};
@@ -36,8 +37,8 @@ fn main(rt: HostRuntime) -> ExitCode {
         Ok(Some(Command::History(callers, calls, blocks))) => {
             histories::print_history(&rt, rt.alloc(), blocks, callers, calls)
         }
-        Ok(Some(Command::Time(mix, items, blocks))) => {
-            timing::time_all(&rt, rt.alloc(), blocks, mix, items)
+        Ok(Some(Command::Time(mix, items, threads, blocks))) => {
+            timing::time_all(&rt, rt.alloc(), blocks, mix, items, threads)
         }
         Ok(Some(Command::Try)) => histories::try_histories(&rt, rt.alloc()),
         Ok(None) => return refused(&rt),

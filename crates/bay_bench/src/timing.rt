@@ -1,5 +1,5 @@
 //! What a call takes.
-ghost use Rattle.std.specs.Prelude.{◌≤◌};
+ghost use Rattle.std.specs.Prelude.{◌≤◌, IfSome};
 ghost use Rattle.room_script.specs.Trials.{IsBlocks};
 
 use crate::words::Blocks;
@@ -11,22 +11,56 @@ use std::sync::Wait;
 use std::thread::Threads;
 use std::time::{Clock, Instant};
 
-/// Times 1, 2 and 4 threads, each of which puts `items` items and takes as many, one by one and in
-/// whole runs of 32, and writes a line for each to standard error. It waits for the threads.
+/// Times so many threads, up to 64, or 1, 2, 4, 8 and 16 where no number is given. Each puts `items`
+/// items and takes as many, one by one and in whole runs of 32, and a line for each is written to
+/// standard error. It waits for the threads.
 pub fn time_all<R: Threads + Wait + Sync + Clock + Eprint>(
     rt: &R,
     alloc: Global,
     blocks: Blocks,
     mix: Mix,
     items: u32,
+    threads: Option<u32>,
+) -> io::Result<()>
+    requires blocks { IsBlocks blocks.layout blocks.count }
+    requires threads { IfSome threads (λ number. number ≤ 64) }
+{
+    match threads {
+        Some(number) => time_both(rt, alloc, blocks, number, items, mix),
+        None => time_usual(rt, alloc, blocks, items, mix),
+    }
+}
+
+// Times 1, 2, 4, 8 and 16 threads.
+fn time_usual<R: Threads + Wait + Sync + Clock + Eprint>(
+    rt: &R,
+    alloc: Global,
+    blocks: Blocks,
+    items: u32,
+    mix: Mix,
 ) -> io::Result<()>
     requires { IsBlocks blocks.layout blocks.count }
 {
-    for threads in [1, 2, 4] {
-        time(rt, alloc, blocks, threads, items, 1, mix)?;
-        time(rt, alloc, blocks, threads, items, 32, mix)?;
+    for threads in [1, 2, 4, 8, 16] {
+        time_both(rt, alloc, blocks, threads, items, mix)?;
     }
     Ok(())
+}
+
+// Times so many threads, one by one and in runs of 32.
+fn time_both<R: Threads + Wait + Sync + Clock + Eprint>(
+    rt: &R,
+    alloc: Global,
+    blocks: Blocks,
+    threads: u32,
+    items: u32,
+    mix: Mix,
+) -> io::Result<()>
+    requires blocks { IsBlocks blocks.layout blocks.count }
+    requires threads { threads ≤ 64 }
+{
+    time(rt, alloc, blocks, threads, items, 1, mix)?;
+    time(rt, alloc, blocks, threads, items, 32, mix)
 }
 
 // Times the set-up and all calls, and writes the nanoseconds over the number of the calls made, or 0

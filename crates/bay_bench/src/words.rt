@@ -1,10 +1,13 @@
 //! The words of the command line.
-ghost use Rattle.std.specs.Prelude.{IfSome};
+ghost use Rattle.std.specs.Prelude.{◌≤◌, IfSome};
 ghost use Rattle.room_script.specs.Trials.{IsBlocks};
 ghost use Rattle.bay_bench.specs.Words.{HasBay};
 
 use bay_core::{Layout, MOST_BLOCKS};
 use bay_crew::Mix;
+
+/// The most threads.
+const MOST_THREADS: u32 = 64;
 
 /// A layout and a number of blocks that it may have.
 #[derive(Clone, Copy)]
@@ -20,8 +23,9 @@ pub struct Blocks {
 pub enum Command {
     /// To print the history of so many callers, with so many calls each.
     History(u32, u32, Blocks),
-    /// To time calls on a list, of which each thread puts so many items and takes as many.
-    Time(Mix, u32, Blocks),
+    /// To time calls on a list, of which each thread puts so many items and takes as many, with so many
+    /// threads, up to 64, or else with the usual numbers of them.
+    Time(Mix, u32, Option<u32>, Blocks),
     /// To check small histories.
     Try,
 }
@@ -33,19 +37,20 @@ pub fn named_command(words: &[String]) -> Option<Command>
 {
     match words {
         [] => Some(Command::Try),
-        [list, items] => time_of(list.as_str(), items.as_str(), usual()),
+        [list, items] => time_of(list.as_str(), items.as_str(), None, usual()),
         [list, items, layout, count] => time_of(
             list.as_str(),
             items.as_str(),
+            None,
             blocks_of(layout.as_str(), count.as_str())?,
         ),
-        [name, callers, calls] => {
-            history_of(name.as_str(), callers.as_str(), calls.as_str(), usual())
+        [name, first, second] => {
+            three_words(name.as_str(), first.as_str(), second.as_str(), usual())
         }
-        [name, callers, calls, layout, count] => history_of(
+        [name, first, second, layout, count] => three_words(
             name.as_str(),
-            callers.as_str(),
-            calls.as_str(),
+            first.as_str(),
+            second.as_str(),
             blocks_of(layout.as_str(), count.as_str())?,
         ),
         _ => None,
@@ -78,9 +83,22 @@ fn blocks_of(layout: &str, count: &str) -> Option<Blocks>
     Some(Blocks { layout, count })
 }
 
-// The command to time calls on a list.
-fn time_of(list: &str, items: &str, blocks: Blocks) -> Option<Command>
+// The command of a name and two numbers: of callers and their calls, or of items and threads.
+fn three_words(name: &str, first: &str, second: &str, blocks: Blocks) -> Option<Command>
     requires { IsBlocks blocks.layout blocks.count }
+    ensures { IfSome result HasBay }
+{
+    if name == "history" {
+        Some(Command::History(number(first)?, number(second)?, blocks))
+    } else {
+        time_of(name, first, Some(few(second)?), blocks)
+    }
+}
+
+// The command to time calls on a list.
+fn time_of(list: &str, items: &str, threads: Option<u32>, blocks: Blocks) -> Option<Command>
+    requires blocks { IsBlocks blocks.layout blocks.count }
+    requires threads { IfSome threads (λ number. number ≤ 64) }
     ensures { IfSome result HasBay }
 {
     let mix = match list {
@@ -88,19 +106,18 @@ fn time_of(list: &str, items: &str, blocks: Blocks) -> Option<Command>
         "queue" => Mix::Queue,
         _ => return None,
     };
-    Some(Command::Time(mix, number(items)?, blocks))
+    Some(Command::Time(mix, number(items)?, threads, blocks))
 }
 
-// The command to print a history.
-fn history_of(name: &str, callers: &str, calls: &str, blocks: Blocks) -> Option<Command>
-    requires { IsBlocks blocks.layout blocks.count }
-    ensures { IfSome result HasBay }
+// The number of threads that a word names.
+fn few(word: &str) -> Option<u32>
+    ensures { IfSome result (λ threads. threads ≤ 64) }
 {
-    if name == "history" {
-        Some(Command::History(number(callers)?, number(calls)?, blocks))
-    } else {
-        None
+    let threads = number(word)?;
+    if threads > MOST_THREADS {
+        return None;
     }
+    Some(threads)
 }
 
 // The number of a word.

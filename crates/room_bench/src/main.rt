@@ -1,8 +1,13 @@
 //! A program that times stays in rooms, and counts them.
 //!
 //! With no word, or with how many stays each thread makes, it writes to standard error what a stay
-//! takes. With the word `stress` it prints how many stays of 8 callers were counted in each room.
+//! takes with 1, 2, 4, 8 and 16 threads; a second word is a number of threads, from 1 to 64, which is
+//! then timed alone. With the word `stress` it prints how many stays of 8 callers were counted in each
+//! room.
 #![tactic(auto)]
+
+ghost use Rattle.std.specs.Prelude.{IfOk, IfSome};
+ghost use Rattle.room_bench.specs.Words.{HasThreads};
 
 mod timing;
 mod words;
@@ -18,7 +23,9 @@ use std::thread::Threads;
 use words::{Command, named_command};
 
 // The command that the words of the command line name, if they name one.
-fn command<R: Env + AllocGlobal>(rt: &R) -> io::Result<Option<Command>> {
+fn command<R: Env + AllocGlobal>(rt: &R) -> io::Result<Option<Command>>
+    ensures { IfOk result (λ command. IfSome command HasThreads) }
+{
     let words = std::env::args(rt)?
         .skip(1)
         .collect::<Vec<String>>(rt.alloc())?;
@@ -33,7 +40,9 @@ fn stress<R: Threads + Wait + Sync + Print>(rt: &R, alloc: Global) -> io::Result
 
 fn main(rt: HostRuntime) -> ExitCode {
     let done = match command(&rt) {
-        Ok(Some(Command::Time(stays))) => timing::time_all(&rt, rt.alloc(), stays),
+        Ok(Some(Command::Time(stays, threads))) => {
+            timing::time_all(&rt, rt.alloc(), stays, threads)
+        }
         Ok(Some(Command::Stress)) => stress(&rt, rt.alloc()),
         Ok(None) => return refused(&rt),
         Err(error) => Err(error),

@@ -1,5 +1,5 @@
 //! What a stay takes.
-ghost use Rattle.std.specs.Prelude.{◌≤◌};
+ghost use Rattle.std.specs.Prelude.{◌≤◌, IfSome};
 
 use stay_tally::tally;
 use std::alloc::Global;
@@ -9,18 +9,46 @@ use std::sync::Wait;
 use std::thread::Threads;
 use std::time::{Clock, Instant};
 
-/// Times 1, 2 and 4 threads that make `stays` stays each, in one room and spread over four, and
-/// writes a line for each to standard error. It waits for the threads.
+/// Times so many threads, up to 64, or 1, 2, 4, 8 and 16 where no number is given, that make `stays`
+/// stays each, in one room and spread over four, and writes a line for each to standard error. It waits
+/// for the threads.
 pub fn time_all<R: Threads + Wait + Sync + Clock + Eprint>(
     rt: &R,
     alloc: Global,
     stays: u32,
+    threads: Option<u32>,
+) -> io::Result<()>
+    requires { IfSome threads (λ number. number ≤ 64) }
+{
+    match threads {
+        Some(number) => time_both(rt, alloc, number, stays),
+        None => time_usual(rt, alloc, stays),
+    }
+}
+
+// Times 1, 2, 4, 8 and 16 threads.
+fn time_usual<R: Threads + Wait + Sync + Clock + Eprint>(
+    rt: &R,
+    alloc: Global,
+    stays: u32,
 ) -> io::Result<()> {
-    for threads in [1, 2, 4] {
-        time(rt, alloc, threads, stays, false)?;
-        time(rt, alloc, threads, stays, true)?;
+    for threads in [1, 2, 4, 8, 16] {
+        time_both(rt, alloc, threads, stays)?;
     }
     Ok(())
+}
+
+// Times so many threads in one room, and spread over four.
+fn time_both<R: Threads + Wait + Sync + Clock + Eprint>(
+    rt: &R,
+    alloc: Global,
+    threads: u32,
+    stays: u32,
+) -> io::Result<()>
+    requires { threads ≤ 64 }
+{
+    time(rt, alloc, threads, stays, false)?;
+    time(rt, alloc, threads, stays, true)
 }
 
 // Times set-up, all stays and the close, and writes the nanoseconds over the number of all stays.
