@@ -1,4 +1,4 @@
-use Rattle.std.proofs.Common.{ℕ, List, [], ◌∷◌, ◌≡◌, ◌≤◌, length, refl, sym, subst, cong, arith}
+use Rattle.std.proofs.Common.{ℕ, List, [], ◌∷◌, ◌≡◌, ◌≤◌, length, refl, sym, subst, arith}
 use Rattle.atomic_table.proofs.Lists.{at_last}
 use Rattle.room_rule.specs.Use.{IsAt}
 use Rattle.room_gate.specs.Shows.{Caller, newcomer}

@@ -1,2 +1,0 @@
-use Rattle.std.proofs.Common.{ℕ, ◌≡◌, ◌<◌, ⊥, subst, arith}
-use Rattle.callers_bay.proofs.acts.Goals as goal
