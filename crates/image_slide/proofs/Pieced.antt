@@ -48,7 +48,7 @@ enough objects = omega arith
 pub slide-pieces : (heap : Heap) (marks : List Bool)
     → (slide heap marks).words ≡ flat_map (piece_words heap marks) (range_with_len 0 (pieces_of (length heap.heads)))
 slide-pieces heap marks =
-    by_pieces (moved heap.words (kept heap.heads marks)) heap.heads marks (pieces_of (length heap.heads)) (enough (length heap.heads))
+    by_pieces (moved heap.format heap.words (kept heap.heads marks)) heap.heads marks (pieces_of (length heap.heads)) (enough (length heap.heads))
 
 -- a range that is cut to the list
 pub clipped : {A : Type 0} (n from : ℕ) (xs : List A)

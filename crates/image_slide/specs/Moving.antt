@@ -12,8 +12,8 @@ use Rattle.image_slide.specs.declared.slide.Moved.{Moved}
 pub record IsMoved (heap : Heap) (marks : List Bool) (moved : Moved) : Type 0 where
   pub lawful : IsLawful heap
   pub table : List ℕ
-  pub is_table : IsTable heap.words (kept heap.heads marks) table
-  pub words : moved.words.items ≡ flat_map (moved_by heap.words table) (kept heap.heads marks)
+  pub is_table : IsTable heap.format heap.words (kept heap.heads marks) table
+  pub words : moved.words.items ≡ flat_map (moved_by heap.format heap.words table) (kept heap.heads marks)
   pub roots : moved.roots.items ≡ map (new_name table) heap.roots
-  pub heads : moved.heads.items ≡ map (new_place heap.words (kept heap.heads marks)) (kept heap.heads marks)
+  pub heads : moved.heads.items ≡ map (new_place heap.format heap.words (kept heap.heads marks)) (kept heap.heads marks)
   pub index : IsIndex moved.heads.items moved.numbers.items

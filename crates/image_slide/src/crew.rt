@@ -53,7 +53,13 @@ pub fn slide_with<R: Threads + Wait + Sync, G: Gate + Sync>(
         return slide_one(alloc, image, live);
     }
     let moved = moved_with(rt, alloc, image, live, crew, gate)?;
-    Ok(Image::from_indexed(moved.words, moved.roots, moved.heads, moved.numbers))
+    Ok(Image::from_indexed(
+        image.format(),
+        moved.words,
+        moved.roots,
+        moved.heads,
+        moved.numbers,
+    ))
 }
 
 /// Moves the marked objects by a crew.
@@ -68,7 +74,7 @@ pub(crate) fn moved_with<R: Threads + Wait + Sync, G: Gate + Sync>(
     requires { IsCrew crew.now }
     ensures { IfOk result (IsMoved image.now marks.now) }
 {
-    let new = new_places(alloc, image.words(), image.heads(), marks)?;
+    let new = new_places(alloc, image.format(), image.words(), image.heads(), marks)?;
     let table = new.table.as_slice();
     let parts = slid_by(rt, alloc, image, marks, table, crew, gate)?;
     let pieces = pieces_of(image.objects()) as usize;

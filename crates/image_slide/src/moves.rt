@@ -1,23 +1,23 @@
 //! The words of objects, moved: renamed by a table of new places.
 ghost use Rattle.std.specs.Prelude.{◌≡◌, ◌+◌, ◌≤◌, ◌^◌, ◌++◌, length, vec_capacity, vec_len, map, sum_by, All, IfOk};
 ghost use Rattle.std.specs.List.{flat_map};
-ghost use Rattle.image_core.specs.Object.{Fits, size_at, references_at};
+ghost use Rattle.image_core.specs.Object.{Fits, size_at, naming_at};
 ghost use Rattle.image_slide.specs.Slide.{kept};
 ghost use Rattle.image_slide.specs.Table.{AreNames, new_name, moved_by};
 
-use image_core::{data, references, size};
+use image_core::{data, references, size, weak_references};
 use std::alloc::{AllocError, Global};
 
 /// How many words the marked ones of these objects have.
-pub(crate) fn words_of(words: &[u64], heads: &[u32], marks: &[bool]) -> usize
-    requires fit { All (Fits words.now) heads.now }
+pub(crate) fn words_of(format: u8, words: &[u64], heads: &[u32], marks: &[bool]) -> usize
+    requires fit { All (Fits format words.now) heads.now }
     requires few { length heads.now ≤ 2 ^ 20 }
-    ensures { result ≡ sum_by (size_at words.now) (kept heads.now marks.now) }
+    ensures { result ≡ sum_by (size_at format words.now) (kept heads.now marks.now) }
 {
     let mut count = 0usize;
     for (head, marked) in heads.iter().zip(marks) {
         if *marked {
-            count += size(words[*head as usize]);
+            count += size(format, words[*head as usize]);
         }
     }
     count
@@ -27,37 +27,39 @@ pub(crate) fn words_of(words: &[u64], heads: &[u32], marks: &[bool]) -> usize
 /// `count` is how many they are.
 pub(crate) fn moved_words(
     alloc: Global,
+    format: u8,
     words: &[u64],
     heads: &[u32],
     marks: &[bool],
     table: &[u32],
     count: usize,
 ) -> Result<Vec<u64>, AllocError>
-    requires fit { All (Fits words.now) heads.now }
-    requires names { All (λ head. AreNames table.now (references_at words.now head)) heads.now }
-    requires count { sum_by (size_at words.now) (kept heads.now marks.now) ≤ count }
-    ensures { IfOk result (λ moved. moved.items ≡ flat_map (moved_by words.now table.now) (kept heads.now marks.now)) }
+    requires fit { All (Fits format words.now) heads.now }
+    requires names { All (λ head. AreNames table.now (naming_at format words.now head)) heads.now }
+    requires count { sum_by (size_at format words.now) (kept heads.now marks.now) ≤ count }
+    ensures { IfOk result (λ moved. moved.items ≡ flat_map (moved_by format words.now table.now) (kept heads.now marks.now)) }
 {
     let mut out = Vec::with_capacity(alloc, count)?;
     for (head, marked) in heads.iter().zip(marks) {
         if *marked {
-            push_moved(words, *head as usize, table, &mut out);
+            push_moved(format, words, *head as usize, table, &mut out);
         }
     }
     Ok(out)
 }
 
 /// Appends the words of an object, renamed by the table. There is room for them.
-fn push_moved(words: &[u64], head: usize, table: &[u32], out: &mut Vec<u64>)
-    requires fits { Fits words.now head }
-    requires names { AreNames table.now (references_at words.now head) }
-    requires room { vec_len out.old + size_at words.now head ≤ vec_capacity out.old }
-    ensures items { out.new.items ≡ out.old.items ++ moved_by words.now table.now head }
+fn push_moved(format: u8, words: &[u64], head: usize, table: &[u32], out: &mut Vec<u64>)
+    requires fits { Fits format words.now head }
+    requires names { AreNames table.now (naming_at format words.now head) }
+    requires room { vec_len out.old + size_at format words.now head ≤ vec_capacity out.old }
+    ensures items { out.new.items ≡ out.old.items ++ moved_by format words.now table.now head }
     ensures capacity { vec_capacity out.new ≡ vec_capacity out.old }
 {
     out.push_reserved(words[head]);
     push_names(references(words, head), table, out);
-    push_plain(data(words, head), out);
+    push_names(weak_references(format, words, head), table, out);
+    push_plain(data(format, words, head), out);
 }
 
 /// Appends these words, renamed by the table. There is room for them.
@@ -96,7 +98,7 @@ pub(crate) fn new_names(alloc: Global, words: &[u64], table: &[u32]) -> Result<V
         .collect(alloc)
 }
 
-/// The word that names an object at its place in the table, and 0 for 0.
+/// The entry in the table of the object that a word names, and 0 for 0.
 #[inline]
 fn new_name(table: &[u32], word: u64) -> u64
     requires { word ≤ length table.now }
@@ -105,6 +107,6 @@ fn new_name(table: &[u32], word: u64) -> u64
     if word == 0 {
         0
     } else {
-        1 + table[(word - 1) as usize] as u64
+        table[(word - 1) as usize] as u64
     }
 }

@@ -60,10 +60,11 @@ pub(crate) fn slid_piece(
     ensures number { IfOk result (λ part. part.piece ≡ piece) }
     ensures slid { IfOk result (IsSlid image.now marks.now table.now) }
 {
+    let format = image.format();
     let words = image.words();
     let heads = in_piece(image.heads(), piece);
     let marks = in_piece(marks, piece);
-    let count = words_of(words, heads, marks);
-    let words = moved_words(alloc, words, heads, marks, table, count)?;
+    let count = words_of(format, words, heads, marks);
+    let words = moved_words(alloc, format, words, heads, marks, table, count)?;
     Ok(Part { piece, words })
 }

@@ -9,7 +9,7 @@ use std::alloc::{AllocError, Global};
 /// Where the marked objects go.
 #[derive(Drop)]
 pub(crate) struct NewPlaces {
-    /// By word, the new place of the marked object whose header stands there.
+    /// By word, 1 + the new place of the marked object whose header stands there, or 0.
     pub(crate) table: Vec<u32>,
     /// The new places, in order.
     pub(crate) heads: Vec<u32>,
@@ -22,13 +22,14 @@ pub(crate) struct NewPlaces {
 /// Where the marked ones of these objects go.
 pub(crate) fn new_places(
     alloc: Global,
+    format: u8,
     words: &[u64],
     heads: &[u32],
     marks: &[bool],
 ) -> Result<NewPlaces, AllocError>
     requires few { length words.now ≤ 2 ^ 22 }
-    requires order { InOrder words.now 0 (kept heads.now marks.now) }
-    ensures { IfOk result (AreNewPlaces words.now (kept heads.now marks.now)) }
+    requires order { InOrder format words.now 0 (kept heads.now marks.now) }
+    ensures { IfOk result (AreNewPlaces format words.now (kept heads.now marks.now)) }
 {
     let mut table = vec![in alloc; 0u32; words.len()]?;
     let mut numbers = vec![in alloc; 0u32; words.len()]?;
@@ -37,10 +38,10 @@ pub(crate) fn new_places(
     for (head, marked) in heads.iter().zip(marks) {
         if *marked {
             let at = *head as usize;
-            table[at] = next;
+            table[at] = next + 1;
             places.push_reserved(next);
             numbers[next as usize] = places.len() as u32;
-            next += size(words[at]) as u32;
+            next += size(format, words[at]) as u32;
         }
     }
     Ok(NewPlaces {

@@ -23,7 +23,7 @@ pub(crate) struct Moved {
 }
 
 /// The image with its live objects alone, in order and without gaps. `live` has a value for each
-/// object: whether it is live.
+/// object: whether it is live. The format stays, and a weak word becomes 0 where its object is not live.
 ///
 /// It takes memory for the new image and for a table of new places, and fails only where memory runs
 /// out.
@@ -32,18 +32,25 @@ pub fn slide_one(alloc: Global, image: &Image, live: &[bool]) -> Result<Image, A
     ensures { IfOk result (λ slid. slid ≡ slide image.now live.now) }
 {
     let moved = moved_one(alloc, image, live)?;
-    Ok(Image::from_indexed(moved.words, moved.roots, moved.heads, moved.numbers))
+    Ok(Image::from_indexed(
+        image.format(),
+        moved.words,
+        moved.roots,
+        moved.heads,
+        moved.numbers,
+    ))
 }
 
 /// Moves the marked objects.
 pub(crate) fn moved_one(alloc: Global, image: &Image, marks: &[bool]) -> Result<Moved, AllocError>
     ensures { IfOk result (IsMoved image.now marks.now) }
 {
+    let format = image.format();
     let words = image.words();
     let heads = image.heads();
-    let new = new_places(alloc, words, heads, marks)?;
+    let new = new_places(alloc, format, words, heads, marks)?;
     let table = new.table.as_slice();
-    let moved = moved_words(alloc, words, heads, marks, table, new.size as usize)?;
+    let moved = moved_words(alloc, format, words, heads, marks, table, new.size as usize)?;
     let roots = new_names(alloc, image.roots(), table)?;
     Ok(Moved {
         words: moved,

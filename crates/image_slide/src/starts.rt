@@ -8,7 +8,7 @@ pub struct Start {
     pub image: Image,
     /// A mark for each object.
     pub marks: LinkedList<bool>,
-    /// By word, the new place of the marked object whose header stands there.
+    /// By word, 1 + the new place of the marked object whose header stands there, or 0.
     pub table: LinkedList<u32>,
     /// Whether it began with the job of all pieces, or with nothing.
     pub whole: bool,

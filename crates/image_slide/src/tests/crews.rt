@@ -83,17 +83,19 @@ fn spent_passes_leave_pieces_that_are_moved_all_the_same(rt: HostRuntime) -> Res
 }
 
 #[test]
-fn an_image_without_objects_keeps_its_null_roots(rt: HostRuntime) -> Result<(), Fail> {
+fn an_image_without_objects_keeps_its_format_and_its_null_roots(
+    rt: HostRuntime,
+) -> Result<(), Fail> {
     let alloc = rt.alloc();
     let roots = vec![in alloc; 0u64, 0]?;
-    let image = Image::lawful(alloc, Vec::new(alloc), roots)?;
+    let image = Image::lawful(alloc, 2, Vec::new(alloc), roots)?;
     assert_eq!(rt; image.objects(), 0);
     let one = slide_one(alloc, &image, &[])?;
-    assert!(rt; one.words().is_empty());
+    assert!(rt; one.words().is_empty() && one.format() == 2);
     assert_eq!(rt; one.roots(), [0, 0].as_slice());
     let crew = crew_of(2, 64, 1 << 24);
     let slid = slide_with(&rt, alloc, &image, &[], &crew, &OpenGate)?;
-    assert!(rt; slid.words().is_empty());
+    assert!(rt; slid.words().is_empty() && slid.format() == 2);
     assert_eq!(rt; slid.roots(), [0, 0].as_slice());
     Ok(())
 }

@@ -11,8 +11,8 @@ use Rattle.image_slide.proofs.crew.moved_with.Goals as goal
 
 pub new_places-requires-clause-order : goal.new_places-requires-clause-order
 new_places-requires-clause-order g c =
-    rw (c.words.ensures.words, c.heads.ensures.heads)
-    (InOrder-kept _ _ _ c.heads.ensures.lawful.fill)
+    rw (c.format.ensures.format, c.words.ensures.words, c.heads.ensures.heads)
+    (InOrder-kept _ _ _ _ c.heads.ensures.lawful.fill)
 
 pub joined-requires : goal.joined-requires
 joined-requires g c p =
@@ -27,15 +27,15 @@ new_names-requires g c =
 
 pub returns : goal.returns
 returns g c =
-    let new : AreNewPlaces c.args.image.now.words (kept c.args.image.now.heads c.args.marks.now) c.in_ok-new.new =
-    rw (c.words.ensures.words, c.heads.ensures.heads) at c.in_ok-new.ensures in
+    let new : AreNewPlaces c.args.image.now.format c.args.image.now.words (kept c.args.image.now.heads c.args.marks.now) c.in_ok-new.new =
+    rw (c.format.ensures.format, c.words.ensures.words, c.heads.ensures.heads) at c.in_ok-new.ensures in
     let heap = c.args.image.now in let table = c.in_ok-new.new.table.items in
     let F = piece_by heap c.args.marks.now table in
     let many = c.pieces_of-pieces.ensures.value ∙ ap pieces_of c.objects.ensures.count in
-    let words : c.in_ok-words.words.items ≡ flat_map (moved_by heap.words table) (kept heap.heads c.args.marks.now) =
+    let words : c.in_ok-words.words.items ≡ flat_map (moved_by heap.format heap.words table) (kept heap.heads c.args.marks.now) =
     c.in_ok-words.ensures F (rw c.as_slice-table.ensures.value at c.in_ok-parts.ensures.slid)
     ∙ (ap (λ n. flat_map F (range_with_len 0 n)) many
-    ∙ sym (by_pieces (moved_by heap.words table) heap.heads c.args.marks.now (pieces_of (length heap.heads)) (enough (length heap.heads)))) in
+    ∙ sym (by_pieces (moved_by heap.format heap.words table) heap.heads c.args.marks.now (pieces_of (length heap.heads)) (enough (length heap.heads)))) in
     record {
       lawful = c.heads.ensures.lawful;
       table = c.in_ok-new.new.table.items;

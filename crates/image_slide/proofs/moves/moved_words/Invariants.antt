@@ -2,7 +2,7 @@ use Rattle.std.proofs.Common.{◌≡◌, ◌++◌, ◌+◌, ◌≤◌, vec_len, 
 use Rattle.std.specs.List.{flat_map, sum_by, All}
 use Rattle.std.specs.Iterator.Adapters.{zip_first, zip_second}
 use Rattle.std.specs.Slice.Iter.{iter_rest}
-use Rattle.image_core.specs.Object.{Fits, size_at, references_at}
+use Rattle.image_core.specs.Object.{Fits, size_at, naming_at}
 use Rattle.image_slide.specs.Slide.{kept}
 use Rattle.image_slide.specs.Table.{AreNames, moved_by}
 use Rattle.image_slide.proofs.moves.moved_words.Given as goal
@@ -13,8 +13,8 @@ invariant-loop-head l =
     let heads = iter_rest (zip_first l.head-iterator) in
     let rest = kept heads (iter_rest (zip_second l.head-iterator)) in
     record {
-      items : l.out.items ++ flat_map (moved_by l.words l.table) rest ≡ flat_map (moved_by l.words l.table) (kept l.heads l.marks);
-      room : vec_len l.out + sum_by (size_at l.words) rest ≤ vec_capacity l.out;
-      fit : All (Fits l.words) heads;
-      names : All (λ head. AreNames l.table (references_at l.words head)) heads;
+      items : l.out.items ++ flat_map (moved_by l.format l.words l.table) rest ≡ flat_map (moved_by l.format l.words l.table) (kept l.heads l.marks);
+      room : vec_len l.out + sum_by (size_at l.format l.words) rest ≤ vec_capacity l.out;
+      fit : All (Fits l.format l.words) heads;
+      names : All (λ head. AreNames l.table (naming_at l.format l.words head)) heads;
     }

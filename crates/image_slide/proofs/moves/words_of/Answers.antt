@@ -17,15 +17,15 @@ overflow_add-count c =
 pub loop-head-preserved-then-marked : goal.loop-head-preserved-then-marked
 loop-head-preserved-then-marked c =
     let inv = c.loop-head.invariant in let steps = c.in-Some.ensures.steps in let head : ℕ = c.in-Some.head.now in
-    let size = size_at c.args.words.now in
+    let size = size_at c.args.format c.args.words.now in
     let heads = iter_rest (zip_first c.next.new.self) in
     let rest = kept heads (iter_rest (zip_second c.next.new.self)) in
     let next = kept_next head c.in-Some.marked.now _ heads _ _ steps.0 steps.1 c.if-marked.true in
-    let fit = subst (λ l. All (Fits c.args.words.now) l) steps.0 inv.fit in
+    let fit = subst (λ l. All (Fits c.args.format c.args.words.now) l) steps.0 inv.fit in
     record {
       sum = omega (arith, inv.sum, ap (sum_by size) next, sum_by-cons size head rest, c.size-count.ensures.value);
       few = omega (arith, inv.few, ap length steps.0, c.size-count.ensures.small);
-      fit = All-tail (Fits c.args.words.now) head heads fit;
+      fit = All-tail (Fits c.args.format c.args.words.now) head heads fit;
     }
 
 pub loop-head-preserved : goal.loop-head-preserved
@@ -34,13 +34,13 @@ loop-head-preserved c =
     let heads = iter_rest (zip_first c.next.new.self) in
     let past = kept_past head c.in-Some.marked.now _ heads _ _ steps.0 steps.1 c.if-marked.false in
     record {
-      sum = omega (arith, inv.sum, ap (sum_by (size_at c.args.words.now)) past);
+      sum = omega (arith, inv.sum, ap (sum_by (size_at c.args.format c.args.words.now)) past);
       few = omega (arith, inv.few, ap length steps.0);
-      fit = All-tail (Fits c.args.words.now) head heads (subst (λ l. All (Fits c.args.words.now) l) steps.0 inv.fit);
+      fit = All-tail (Fits c.args.format c.args.words.now) head heads (subst (λ l. All (Fits c.args.format c.args.words.now) l) steps.0 inv.fit);
     }
 
 pub returns : goal.returns
 returns c =
     let end = kept_end (iter_rest (zip_first c.loop-head.head-iterator)) (iter_rest (zip_second c.loop-head.head-iterator))
     (elim c.in-None.ensures.steps [ inl heads ↦ inl heads.1.0 | inr marks ↦ inr marks.1.0 ]) in
-    omega (arith, c.loop-head.invariant.sum, ap (sum_by (size_at c.args.words.now)) end)
+    omega (arith, c.loop-head.invariant.sum, ap (sum_by (size_at c.args.format c.args.words.now)) end)

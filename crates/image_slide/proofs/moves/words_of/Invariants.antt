@@ -12,7 +12,7 @@ invariant-loop-head l =
     let heads = iter_rest (zip_first l.head-iterator) in
     let rest = kept heads (iter_rest (zip_second l.head-iterator)) in
     record {
-      sum : l.count + sum_by (size_at l.words) rest ≡ sum_by (size_at l.words) (kept l.heads l.marks);
-      few : l.count + 2 ^ 17 * length heads ≤ 2 ^ 17 * length l.heads;
-      fit : All (Fits l.words) heads;
+      sum : l.count + sum_by (size_at l.format l.words) rest ≡ sum_by (size_at l.format l.words) (kept l.heads l.marks);
+      few : l.count + 2 ^ 18 * length heads ≤ 2 ^ 18 * length l.heads;
+      fit : All (Fits l.format l.words) heads;
     }

@@ -7,17 +7,17 @@ use Rattle.image_slide.proofs.slide.moved_one.Goals as goal
 
 pub new_places-requires-clause-order : goal.new_places-requires-clause-order
 new_places-requires-clause-order c =
-    rw (c.words-words.ensures.words, c.heads-heads.ensures.heads)
-    (InOrder-kept _ _ _ c.heads-heads.ensures.lawful.fill)
+    rw (c.format-format.ensures.format, c.words-words.ensures.words, c.heads-heads.ensures.heads)
+    (InOrder-kept _ _ _ _ c.heads-heads.ensures.lawful.fill)
 
 pub moved_words-requires-clause-fit : goal.moved_words-requires-clause-fit
 moved_words-requires-clause-fit c =
-    rw (c.words-words.ensures.words, c.heads-heads.ensures.heads) (heads_fit c.args.image.now c.heads-heads.ensures.lawful)
+    rw (c.format-format.ensures.format, c.words-words.ensures.words, c.heads-heads.ensures.heads) (heads_fit c.args.image.now c.heads-heads.ensures.lawful)
 
 pub moved_words-requires-clause-names : goal.moved_words-requires-clause-names
 moved_words-requires-clause-names c =
     let each = rw c.words-words.ensures.words at c.in_ok-new.ensures.table.each in
-    rw (c.words-words.ensures.words, c.heads-heads.ensures.heads, c.as_slice-table.ensures.value)
+    rw (c.format-format.ensures.format, c.words-words.ensures.words, c.heads-heads.ensures.heads, c.as_slice-table.ensures.value)
     (heads_names c.args.image.now c.heads-heads.ensures.lawful c.in_ok-new.new.table.items each)
 
 pub moved_words-requires-clause-count : goal.moved_words-requires-clause-count
@@ -31,13 +31,13 @@ new_names-requires c =
 
 pub returns : goal.returns
 returns c =
-    let new : AreNewPlaces c.args.image.now.words (kept c.args.image.now.heads c.args.marks.now) c.in_ok-new.new =
-    rw (c.words-words.ensures.words, c.heads-heads.ensures.heads) at c.in_ok-new.ensures in
+    let new : AreNewPlaces c.args.image.now.format c.args.image.now.words (kept c.args.image.now.heads c.args.marks.now) c.in_ok-new.new =
+    rw (c.format-format.ensures.format, c.words-words.ensures.words, c.heads-heads.ensures.heads) at c.in_ok-new.ensures in
     record {
       lawful = c.heads-heads.ensures.lawful;
       table = c.in_ok-new.new.table.items;
       is_table = new.table;
-      words = rw (c.words-words.ensures.words, c.heads-heads.ensures.heads, c.as_slice-table.ensures.value) at c.in_ok-moved.ensures;
+      words = rw (c.format-format.ensures.format, c.words-words.ensures.words, c.heads-heads.ensures.heads, c.as_slice-table.ensures.value) at c.in_ok-moved.ensures;
       roots = rw (c.roots.ensures.roots, c.as_slice-table.ensures.value) at c.in_ok-roots.ensures;
       heads = new.heads;
       index = new.index;
