@@ -13,7 +13,8 @@ knows alone whether the text is accepted, and writes nothing. The other tools us
 import struct
 import sys
 
-MAGIC = b"ROOMIMG1"
+NAME = b"ROOMIMG"
+MAGIC = NAME + b"1"
 MOST_WORDS, MOST_ROOTS, MOST_OBJECTS = 2**22, 2**16, 2**20
 MOST_TEXT = 2**20
 
@@ -62,20 +63,31 @@ def make(objects, seed):
     return words, roots
 
 
-def image_bytes(words, roots):
-    """The bytes of an image."""
+def image_bytes(words, roots, form=1):
+    """The bytes of an image of a format."""
     numbers = [len(words), len(roots), *words, *roots]
-    return MAGIC + struct.pack(f"<{len(numbers)}Q", *numbers)
+    return NAME + b"%d" % form + struct.pack(f"<{len(numbers)}Q", *numbers)
 
 
-def size_of(header):
+def weak_of(header, form):
+    """How many weak words an object has: none in format 1."""
+    return header >> 32 & 0xFFFF if form == 2 else 0
+
+
+def size_of(header, form=1):
     """How many words an object has."""
-    return 1 + (header & 0xFFFF) + (header >> 16 & 0xFFFF)
+    return 1 + (header & 0xFFFF) + weak_of(header, form) + (header >> 16 & 0xFFFF)
 
 
 def references_of(words, head):
     """The reference words of the object with this header's place."""
     return words[head + 1 : head + 1 + (words[head] & 0xFFFF)]
+
+
+def weak_words_of(words, head, form):
+    """Its weak words, which follow those."""
+    at = head + 1 + (words[head] & 0xFFFF)
+    return words[at : at + weak_of(words[head], form)]
 
 
 def refuse_image(kind, place, value):
@@ -87,8 +99,8 @@ def counts_of(data):
     """The numbers of words and roots that the bytes tell, where they have the length of such an image."""
     if len(data) < 24:
         refuse_image("Short", len(data), 24)
-    for place, byte in enumerate(MAGIC):
-        if data[place] != byte:
+    for place in range(8):
+        if data[place] not in (b"12" if place == 7 else NAME[place : place + 1]):
             refuse_image("Magic", place, data[place])
     count, roots = struct.unpack_from("<2Q", data, 8)
     if count > MOST_WORDS:
@@ -104,28 +116,29 @@ def counts_of(data):
 
 
 def read_image(data):
-    """The words, the roots and the places of the headers."""
+    """The words, the roots, the places of the headers and the format."""
     count, _ = counts_of(data)
+    form = data[7] - ord("0")
     numbers = struct.unpack_from(f"<{len(data) // 8 - 3}Q", data, 24)
     words, roots = numbers[:count], numbers[count:]
     heads = []
     at = 0
     while at < count:
-        if at + size_of(words[at]) > count:
+        if at + size_of(words[at], form) > count:
             refuse_image("Overrun", at, words[at])
         heads.append(at)
-        at += size_of(words[at])
+        at += size_of(words[at], form)
     if len(heads) > MOST_OBJECTS:
         refuse_image("TooManyObjects", heads[MOST_OBJECTS], words[heads[MOST_OBJECTS]])
     names = {0, *(1 + head for head in heads)}
     for head in heads:
-        for at, word in enumerate(references_of(words, head), head + 1):
+        for at, word in enumerate([*references_of(words, head), *weak_words_of(words, head, form)], head + 1):
             if word not in names:
                 refuse_image("BadRef", at, word)
     for at, word in enumerate(roots):
         if word not in names:
             refuse_image("BadRoot", at, word)
-    return words, roots, heads
+    return words, roots, heads, form
 
 
 def live_of(words, roots):
@@ -140,20 +153,22 @@ def live_of(words, roots):
     return sorted(live)
 
 
-def slide(words, roots):
-    """The words and the roots of the image with its live objects alone, in order and without gaps."""
+def slide(words, roots, form=1):
+    """The words and the roots of the image with its live objects alone, in order and without gaps. A weak word
+    becomes 0 where its object is not live."""
     live = live_of(words, roots)
     new = {0: 0}
     place = 0
     for head in live:
         new[head + 1] = 1 + place
-        place += size_of(words[head])
+        place += size_of(words[head], form)
     slid = []
     for head in live:
-        references = references_of(words, head)
+        references, weak = references_of(words, head), weak_words_of(words, head, form)
         slid.append(words[head])
         slid.extend(new[word] for word in references)
-        slid.extend(words[head + 1 + len(references) : head + size_of(words[head])])
+        slid.extend(new.get(word, 0) for word in weak)
+        slid.extend(words[head + 1 + len(references) + len(weak) : head + size_of(words[head], form)])
     return slid, [new[root] for root in roots]
 
 
@@ -167,20 +182,20 @@ def fold(words, roots):
 
 def compact(data):
     """The bytes of the slide of an image."""
-    words, roots, _ = read_image(data)
-    return image_bytes(*slide(words, roots))
+    words, roots, _, form = read_image(data)
+    return image_bytes(*slide(words, roots, form), form)
 
 
 def check(data):
     """How large an image is, in print."""
-    words, roots, heads = read_image(data)
+    words, roots, heads, _ = read_image(data)
     return b"ok words %d roots %d objects %d\n" % (len(words), len(roots), len(heads))
 
 
 def mark(data):
     """The six lines on an image."""
-    words, roots, heads = read_image(data)
-    slid, moved = slide(words, roots)
+    words, roots, heads, form = read_image(data)
+    slid, moved = slide(words, roots, form)
     return b"objects %d\nlive %d\nwords %d\nkept %d\nroots %d\nfold %d\n" % (
         len(heads), len(live_of(words, roots)), len(words), len(slid), len(roots), fold(slid, moved))
 

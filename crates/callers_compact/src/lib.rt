@@ -1,9 +1,11 @@
 //! A caller to copy: an image is read from one device, compacted by a crew and written to another.
 #![tactic(auto)]
 
-ghost use Rattle.std.specs.Prelude.{◌≡◌, true, IfOk};
+ghost use Rattle.std.specs.Prelude.{◌≡◌, ◌⊎◌, true, false, IfOk};
+ghost use Rattle.room_io.specs.Causes.{Rose};
 ghost use Rattle.work_pool.specs.Crews.{IsCrew};
-ghost use Rattle.callers_compact.specs.Compacts.{IsCompact, IsPassedOn};
+ghost use Rattle.image_slide.specs.Compact.{IsCompacted};
+ghost use Rattle.callers_compact.specs.Compacts.{IsPassedOn};
 
 use image_core::ReadImage;
 use image_mark::mark_with;
@@ -26,7 +28,7 @@ fn compacted<R: Threads + Wait + Sync>(
     bytes: &[u8],
 ) -> Result<Vec<u8>, ReadImage>
     requires { IsCrew crew.now }
-    ensures { IfOk result (λ out. IsCompact bytes.now out.items) }
+    ensures { IfOk result (λ out. IsCompacted bytes.now out.items) }
 {
     let image = read_image(alloc, bytes)?;
     let marks = mark_with(rt, alloc, &image, crew, &OpenGate)?;
@@ -34,9 +36,11 @@ fn compacted<R: Threads + Wait + Sync>(
     Ok(write_image(alloc, &slid)?)
 }
 
-/// Reads an image, and writes its live objects alone, in order and without gaps, whatever the crew. It
-/// answers whether the whole was written: not where a read or a write failed, where the bytes are no image,
-/// or for want of memory. It waits for the crew's workers.
+/// Reads an image to its end, and writes its live objects alone, in order and without gaps, whatever the
+/// crew. It answers whether the whole was written: not where a read or a write failed, where the bytes are
+/// no image, or for want of memory; the sink is then as it was, unless a write failed. It waits for the
+/// crew's workers.
+#[tactic(auto, using(crate::proofs::Sizes::compacted_short))]
 pub fn compact<R: Threads + Wait + Sync, S: Source, K: Sink>(
     rt: &R,
     alloc: Global,
@@ -45,7 +49,8 @@ pub fn compact<R: Threads + Wait + Sync, S: Source, K: Sink>(
     sink: &mut K,
 ) -> bool
     requires { IsCrew crew.now }
-    ensures { result ≡ true → IsPassedOn (S.left source.old) (S.left source.new) (K.written sink.old) (K.written sink.new) }
+    ensures passed { result ≡ true → IsPassedOn (S.left source.old) (S.left source.new) (K.written sink.old) (K.written sink.new) }
+    ensures unwritten { result ≡ false → (sink.new ≡ sink.old) ⊎ Rose (K.faults sink.old) (K.faults sink.new) }
 {
     let Ok(bytes) = read_up_to(alloc, source, MOST) else {
         return false;

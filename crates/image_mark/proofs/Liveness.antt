@@ -3,11 +3,12 @@ use Rattle.std.proofs.Common.{◌≡◌, ℕ, zero, suc, ◌+◌, ◌<◌, ◌�
 use Rattle.std.proofs.lemmas.List.{length-replicate, length-map, get_or-map}
 use Rattle.std.proofs.lemmas.List.Elements.{Contains-append_left, Contains-push, Contains-push_cases, All-weaker, All-from_get_or}
 use Rattle.std.specs.List.{Contains, All}
-use Rattle.image_core.specs.Object.{references_at, Fits}
+use Rattle.image_core.specs.Object.{refs_at, references_at}
 use Rattle.image_core.specs.Heap.{Heap, head_of, IsLawful, Names}
 use Rattle.image_core.specs.Live.{IsObject, IsRoot, RefersTo, IsLive, MarksLive}
 use Rattle.image_core.proofs.Standing.{Fill-fits, Fill-once}
 use Rattle.image_core.proofs.Naming.{Names-within}
+use Rattle.image_core.proofs.Parts.{references_named}
 use Rattle.image_core.proofs.Paths.{IsLive-induction, IsLive-reference, root_of, reference_of}
 use Rattle.image_mark.specs.Waiting.{IsMarkedAt, MarksNamed}
 
@@ -102,21 +103,23 @@ module _ (heap : Heap) (lawful : IsLawful heap) where
 
   pub roots_within : All (λ word. word ≤ length heap.words) heap.roots
   roots_within = All-weaker (Names heap.heads) (λ word. word ≤ length heap.words)
-      (λ word names. Names-within heap.words heap.heads word lawful.fill names) heap.roots lawful.roots
+      (λ word names. Names-within heap.format heap.words heap.heads word lawful.fill names) heap.roots lawful.roots
 
   pub references_within : (place : ℕ) → IsLiveAt heap place → All (λ word. word ≤ length heap.words) (references_at heap.words place)
   references_within place at =
-      let all : All (Names heap.heads) (references_at heap.words (head_of heap at.0)) = lawful.references at.0 0 at.1 in
+      let all : All (Names heap.heads) (references_at heap.words (head_of heap at.0)) =
+      references_named heap.format heap.words heap.heads (head_of heap at.0) (lawful.references at.0 0 at.1) in
       All-weaker (Names heap.heads) (λ word. word ≤ length heap.words)
-      (λ word names. Names-within heap.words heap.heads word lawful.fill names) (references_at heap.words place)
+      (λ word names. Names-within heap.format heap.words heap.heads word lawful.fill names) (references_at heap.words place)
       (subst (λ p. All (Names heap.heads) (references_at heap.words p)) at.2 all)
 
   pub heads_within : All (λ place. place < length heap.words) heap.heads
   heads_within = All-from_get_or (λ place. place < length heap.words) heap.heads 0
-      (λ object below. omega (arith, Fill-fits heap.words heap.heads lawful.fill object below))
+      (λ object below. omega (arith, Fill-fits heap.format heap.words heap.heads lawful.fill object below))
 
-  pub fits_at : (place : ℕ) → IsLiveAt heap place → Fits heap.words place
-  fits_at place at = subst (Fits heap.words) at.2 (Fill-fits heap.words heap.heads lawful.fill at.0 at.1)
+  pub fits_at : (place : ℕ) → IsLiveAt heap place → place + refs_at heap.words place < length heap.words
+  fits_at place at = subst (λ p. p + refs_at heap.words p < length heap.words) at.2
+      (omega (arith, Fill-fits heap.format heap.words heap.heads lawful.fill at.0 at.1))
 
   -- nothing waits
   pub MarksLive-closed : (marks : List Bool) → Sound heap marks [] → Closed heap marks [] → EachMarked heap.roots marks
@@ -136,7 +139,7 @@ module _ (heap : Heap) (lawful : IsLawful heap) where
             get_or-map (λ place. get_or marks place false) heap.heads object 0 false below in (
               (λ marked.
                   let at = sound.marked (head_of heap object) (sym value ∙ marked) in
-                  let one : at.0 ≡ object = Fill-once heap.words heap.heads lawful.fill at.0 object at.1 below at.2 in
+                  let one : at.0 ≡ object = Fill-once heap.format heap.words heap.heads lawful.fill at.0 object at.1 below at.2 in
                   subst (IsLive heap) one at.3),
               λ live. value ∙ IsLive-induction heap P start step object live,
             );

@@ -7,7 +7,7 @@ use image_core::{Image, references};
 use std::alloc::{AllocError, Global};
 
 /// Which objects are live: for each, in the order of their numbers, whether a path of references
-/// leads to it from a root.
+/// leads to it from a root. A weak word leads nowhere.
 ///
 /// It waits for nobody, and takes memory: a mark for each word, and places for the objects that wait to
 /// be gone through, of which there are never more than objects.

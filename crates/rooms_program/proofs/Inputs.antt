@@ -53,7 +53,7 @@ refusing_reads Schedule bytes why r = tt
 image_size : (bytes : List ℕ) (heap : Heap) → IsImage bytes heap → length bytes ≤ most_image
 image_size bytes heap i =
     let spells = i.spells in
-    omega (arith, ap length spells.spelled_so, length-spelling heap.words heap.roots, spells.few_words, spells.few_roots)
+    omega (arith, ap length spells.spelled_so, length-spelling heap.format heap.words heap.roots, spells.few_words, spells.few_roots)
 
 -- an input that is accepted is not too long
 accepted_size : (command : Command) (input : List ℕ) → Reads command → Accepts command input → length input ≤ most_bytes command

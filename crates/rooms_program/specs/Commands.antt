@@ -9,7 +9,7 @@ use Rattle.room_script.specs.Schedules.{IsSchedule}
 use Rattle.room_script.specs.Trials.{IsTrial}
 use Rattle.command_words.specs.declared.command.Command.{Command}
 use Rattle.command_words.specs.declared.command.Command.TheVariants.{Compact, Mark, Check, Make, Trial, Schedule}
-use Rattle.rooms_program.specs.Compact.{IsCompacted}
+use Rattle.image_slide.specs.Compact.{IsCompacted}
 use Rattle.rooms_program.specs.Schedules.{IsRunnable, IsScheduled, IsStopped}
 use Rattle.rooms_program.specs.Sizes.{IsChecked, IsMarked, IsSummary}
 use Rattle.rooms_program.specs.Texts.{most_text, IsBroken}

@@ -1,5 +1,4 @@
 pub mod Commands
-pub mod Compact
 pub mod Limits
 pub mod Runs
 pub mod Schedules

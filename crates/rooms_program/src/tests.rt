@@ -16,9 +16,14 @@ use work_pool::{Gate, OpenGate};
 mod hostile;
 mod large;
 
-/// The bytes of an image: its magic, and then these numbers.
+/// The bytes of an image of format 1: its magic, and then these numbers.
 fn image(alloc: Global, numbers: &[u64]) -> Result<Vec<u8>, AllocError> {
-    let mut bytes = Vec::from_slice(alloc, b"ROOMIMG1")?;
+    framed(alloc, b"ROOMIMG1", numbers)
+}
+
+/// A magic, and then the bytes of these numbers.
+fn framed(alloc: Global, magic: &[u8], numbers: &[u64]) -> Result<Vec<u8>, AllocError> {
+    let mut bytes = Vec::from_slice(alloc, magic)?;
     for number in numbers {
         bytes.extend_from_slice(&number.to_le_bytes())?;
     }
@@ -128,6 +133,80 @@ fn compact_keeps_the_live_objects(rt: HostRuntime) -> Result<(), Fail> {
             assert_eq!(rt; ended.status, Status::Good);
             assert_eq!(rt; ended.sink.written(), image(alloc, output)?.as_slice());
             assert!(rt; ended.notes.written().is_empty());
+        }
+    }
+    Ok(())
+}
+
+/// An image of format 2: the object at 0 has a reference to that at 5 and a weak word that names that at 3,
+/// and the object at 5 a weak word that names that at 0. The root names the object at 0.
+const WEAK_WORDS: [u64; 10] = [
+    7,
+    1,
+    1970329131941889,
+    6,
+    4,
+    2251799813750784,
+    99,
+    2533279085363200,
+    1,
+    1,
+];
+
+/// An image of format 2 of one object, with a weak word that names itself, and a root that is null.
+const WEAK_ITSELF: [u64; 5] = [2, 1, 281479271677952, 1, 0];
+
+#[test]
+fn compact_keeps_no_object_for_a_weak_word(rt: HostRuntime) -> Result<(), Fail> {
+    let alloc = rt.alloc();
+    let cases: [(&[u64], &[u64]); 3] = [
+        (
+            &WEAK_WORDS,
+            &[5, 1, 1970329131941889, 4, 0, 2533279085363200, 1, 1],
+        ),
+        (&WEAK_ITSELF, &[0, 1, 0]),
+        (&[0, 0], &[0, 0]),
+    ];
+    let crews: [&[&str]; 3] = [
+        &["compact"],
+        &["compact", "--workers", "2"],
+        &["compact", "--layout=paged", "--workers=4", "--blocks=2"],
+    ];
+    for (input, output) in cases {
+        let input = framed(alloc, b"ROOMIMG2", input)?;
+        let output = framed(alloc, b"ROOMIMG2", output)?;
+        for words in crews {
+            let ended = Attempt::new(words, &input).ended(&rt, alloc)?;
+            assert_eq!(rt; ended.status, Status::Good);
+            assert_eq!(rt; ended.sink.written(), output.as_slice());
+            assert!(rt; ended.notes.written().is_empty());
+        }
+    }
+    Ok(())
+}
+
+#[test]
+fn weak_words_that_name_nothing_and_other_formats_are_refused(rt: HostRuntime) -> Result<(), Fail> {
+    let alloc = rt.alloc();
+    let cases: [(Vec<u8>, ImageFault, &str); 2] = [
+        (
+            framed(alloc, b"ROOMIMG2", &[2, 0, 4294967296, 2])?,
+            ImageFault::new(ImageKind::BadRef, 1, 2),
+            "image BadRef place 1 value 2\n",
+        ),
+        (
+            framed(alloc, b"ROOMIMG3", &[0, 0])?,
+            ImageFault::new(ImageKind::Magic, 7, 51),
+            "image Magic place 7 value 51\n",
+        ),
+    ];
+    for (bytes, fault, note) in cases {
+        for word in ["compact", "mark", "check"] {
+            let ended = Attempt::new(&[word], &bytes).ended(&rt, alloc)?;
+            assert_eq!(rt; ended.status, Status::Image(fault));
+            assert_eq!(rt; ended.status.code(), 3);
+            assert!(rt; ended.sink.written().is_empty());
+            assert_eq!(rt; ended.notes.written(), note.as_bytes());
         }
     }
     Ok(())
@@ -312,6 +391,22 @@ fn check_tells_how_large_an_image_is(rt: HostRuntime) -> Result<(), Fail> {
 }
 
 #[test]
+fn check_tells_how_large_an_image_of_format_2_is(rt: HostRuntime) -> Result<(), Fail> {
+    let alloc = rt.alloc();
+    let cases: [(&[u64], &str); 2] = [
+        (&WEAK_WORDS, "ok words 7 roots 1 objects 3\n"),
+        (&WEAK_ITSELF, "ok words 2 roots 1 objects 1\n"),
+    ];
+    for (input, output) in cases {
+        for ended in checked(&rt, alloc, &framed(alloc, b"ROOMIMG2", input)?)? {
+            assert_eq!(rt; ended.status, Status::Good);
+            assert_eq!(rt; ended.sink.written(), output.as_bytes());
+        }
+    }
+    Ok(())
+}
+
+#[test]
 fn check_refuses_what_is_no_image(rt: HostRuntime) -> Result<(), Fail> {
     let alloc = rt.alloc();
     let fault = ImageFault::new(ImageKind::BadRef, 1, 3);
@@ -353,6 +448,32 @@ fn mark_prints_six_lines(rt: HostRuntime) -> Result<(), Fail> {
         assert_eq!(rt; ended.sink.written(), output.as_bytes());
         assert!(rt; ended.source.left().is_empty());
         assert!(rt; ended.notes.written().is_empty());
+    }
+    Ok(())
+}
+
+#[test]
+fn mark_counts_what_references_alone_lead_to(rt: HostRuntime) -> Result<(), Fail> {
+    let alloc = rt.alloc();
+    // the fold is of the slide's words and root, by the rule
+    let cases: [(&[u64], &str); 2] = [
+        (
+            &WEAK_WORDS,
+            "objects 3\nlive 2\nwords 7\nkept 5\nroots 1\nfold 1141341860492293827\n",
+        ),
+        (
+            &WEAK_ITSELF,
+            "objects 1\nlive 0\nwords 2\nkept 0\nroots 1\nfold 0\n",
+        ),
+    ];
+    let crews: [&[&str]; 2] = [&["mark"], &["mark", "--workers", "2"]];
+    for (input, output) in cases {
+        let input = framed(alloc, b"ROOMIMG2", input)?;
+        for words in crews {
+            let ended = Attempt::new(words, &input).ended(&rt, alloc)?;
+            assert_eq!(rt; ended.status, Status::Good);
+            assert_eq!(rt; ended.sink.written(), output.as_bytes());
+        }
     }
     Ok(())
 }
