@@ -161,8 +161,7 @@ pub record PutsSome (x : BayUse) (items : List ℕ) (before now : Caller BayView
   pub all : h.stop ≡ All → h.stored ≡ length items
   -- it made a draw for each, and nothing else changed
   pub spills : Spills Push again before.user now.user
-  pub same : now ≡ calling before now now.draws before.user.held
-  pub draws : now.draws ≡ before.draws + again + draws_of h.stop
+  pub same : now ≡ calling before now (before.draws + again + draws_of h.stop) before.user.held
 
 -- what the stores of a handful's items leave of a view: nothing to do
 abbrev pub Fills : BayView → BayView → Type 0

@@ -164,6 +164,7 @@ fn store_split(rooms: &Rooms<BayUse>, inside: &mut Inside<BayUse>, items: &[u64]
     requires stage { inside.old.caller.user.stage ≡ filling place items.now }
     requires below { 0 < length items.now → place + length items.now ≤ 32 * rooms.now.usage.blocks }
     ensures fills { Fills inside.old.caller.user inside.new.caller.user }
+    ensures none { length items.now ≡ 0 → inside.new.caller.user ≡ inside.old.caller.user }
     ensures same { StillIn inside.old inside.new }
 {
     for i in 0..items.len() {
@@ -181,6 +182,7 @@ fn store_paged(rooms: &Rooms<BayUse>, inside: &mut Inside<BayUse>, items: &[u64]
     requires stage { inside.old.caller.user.stage ≡ filling place items.now }
     requires below { 0 < length items.now → place + length items.now ≤ 64 * rooms.now.usage.blocks }
     ensures fills { Fills inside.old.caller.user inside.new.caller.user }
+    ensures none { length items.now ≡ 0 → inside.new.caller.user ≡ inside.old.caller.user }
     ensures same { StillIn inside.old inside.new }
 {
     let blocks = rooms.usage().blocks();

@@ -3,6 +3,7 @@
 
 ghost use Rattle.std.specs.Prelude.{◌≡◌, ◌≤◌, IfSome};
 ghost use Rattle.bay_core.specs.declared.calls.Op.TheVariants as ops;
+ghost use Rattle.bay_store.specs.Wishes.{IsOne, op_of, item_of};
 
 use bay_core::Op;
 use bay_store::{Bay, BayActed, BayAsk, BayInside, BayPass, BayPolled, BayWaiting, Receipt};
@@ -32,8 +33,9 @@ pub fn push_in_parts<R: Wait>(
 // Polls until it is inside, and goes on there.
 fn goes_in<R: Wait>(rt: &R, bay: &Bay, waiting: BayWaiting) -> (BayPass, Option<Receipt>)
     requires own { waiting.waiter.caller.site ≡ bay.now.site }
+    requires asked { IsOne waiting.wish }
     ensures same_bay { result.0.site ≡ bay.now.site }
-    ensures told { IfSome result.1 (λ r. (r.entry.op ≡ waiting.op) × (r.entry.arg ≡ waiting.item)) }
+    ensures told { IfSome result.1 (λ r. (r.entry.op ≡ op_of waiting.wish) × (r.entry.arg ≡ item_of waiting.wish)) }
 {
     let mut waiting = waiting;
     for _ in rt.forever() {
@@ -49,8 +51,9 @@ fn goes_in<R: Wait>(rt: &R, bay: &Bay, waiting: BayWaiting) -> (BayPass, Option<
 // Does the operation, and leaves.
 fn acts(bay: &Bay, inside: BayInside) -> (BayPass, Option<Receipt>)
     requires own { inside.insider.caller.site ≡ bay.now.site }
+    requires asked { IsOne inside.wish }
     ensures same_bay { result.0.site ≡ bay.now.site }
-    ensures told { IfSome result.1 (λ r. (r.entry.op ≡ inside.op) × (r.entry.arg ≡ inside.item)) }
+    ensures told { IfSome result.1 (λ r. (r.entry.op ≡ op_of inside.wish) × (r.entry.arg ≡ item_of inside.wish)) }
 {
     match bay.act(inside) {
         BayActed::Answered(done, receipt) => (bay.leave(done), Some(receipt)),

@@ -1,0 +1,9 @@
+use Rattle.std.proofs.Common.{arith}
+use Rattle.bay_store.proofs.Shares.{has_share, few_shares}
+use Rattle.bay_store.proofs.bays.Bay.go_in.Goals as goal
+
+pub pledge-held-requires-clause-some : goal.pledge-held-requires-clause-some
+pledge-held-requires-clause-some c = ?
+
+pub pledge-held-requires-clause-few : goal.pledge-held-requires-clause-few
+pledge-held-requires-clause-few c = ?

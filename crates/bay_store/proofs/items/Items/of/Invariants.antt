@@ -1,0 +1,6 @@
+use Rattle.std.proofs.Common.{◌≡◌, take}
+use Rattle.bay_store.proofs.items.Items.of.Given as goal
+
+-- the items before this one are there
+abbrev pub invariant-loop-i : goal.invariant-loop-i
+invariant-loop-i l = record { same : take l.i l.room ≡ take l.i l.items }
