@@ -7,7 +7,7 @@ use crate::drives::Drive;
 use crate::hands::Hand;
 use crate::pools::{Pool, Way};
 use crate::puts::Put;
-use crate::several::offer_some;
+use crate::offers_some::offer_some;
 use crate::works::Work;
 use std::sync::Wait;
 
