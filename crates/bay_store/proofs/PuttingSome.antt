@@ -115,7 +115,8 @@ module _ (x : BayUse) (items : List ℕ) (before : Caller BayView) where
       few = omega (arith, p.1, sum, left);
       all = λ e. absurd (cc);
       spills = subst (λ (z : Caller BayView). Spills Push times before.user z.user) (sym p.2) (counted times stored mid run);
-      same = subst (λ z. z ≡ calling before z (before.draws + times) before.user.held) (sym p.2) (ran times stored mid run);
+      same = calling_same before now _ _ _ _ (omega arith) refl
+          (subst (λ z. z ≡ calling before z (before.draws + times) before.user.held) (sym p.2) (ran times stored mid run));
     }
 
   -- one overflow more leaves items to put

@@ -137,8 +137,8 @@ PutsOnce x items stored Spent before now =
 -- how many, how many items they stored in all, and the caller after them.
 pub data HasSpilled (x : BayUse) (items : List ℕ) (before : Caller BayView)
     : ℕ → ℕ → Caller BayView → Type 0 where
-  pub none : HasSpilled x items before 0 0 before
-  pub more : (times stored part : ℕ) (mid now : Caller BayView)
+  none : HasSpilled x items before 0 0 before
+  more : (times stored part : ℕ) (mid now : Caller BayView)
       → HasSpilled x items before times stored mid
       → Puts x (drop stored items) part Overflow mid now
       → HasSpilled x items before (times + 1) (stored + part) now
