@@ -1,6 +1,6 @@
 -- Handfuls of one call, one after another.
-use Rattle.std.proofs.Common.{◌≡◌, ◌≢◌, ◌∙◌, ℕ, ◌+◌, ◌-◌, ◌<◌, ◌≤◌, List, length, drop, refl, sym, ap, subst, arith}
-use Rattle.std.proofs.lemmas.List.{length-drop}
+use Rattle.std.proofs.Common.{◌≡◌, ◌≢◌, ◌∙◌, ℕ, ◌+◌, ◌-◌, ◌<◌, ◌≤◌, List, length, take, drop, refl, sym, ap, subst, arith}
+use Rattle.std.proofs.lemmas.List.{take_all, length-drop}
 use Rattle.room_gate.specs.Shows.{Caller}
 use Rattle.bay_core.specs.declared.calls.Layout.{Layout}
 use Rattle.bay_core.specs.declared.calls.Layout.TheVariants.{Split, Paged}
@@ -16,6 +16,10 @@ use Rattle.bay_store.specs.Handfuls.HasSpilled.{none, more}
 use Rattle.bay_store.specs.declared.receipts.Stop.{Stop}
 use Rattle.bay_store.specs.declared.receipts.Stop.TheVariants.{All, Full, Overflow, Spent}
 use Rattle.bay_store.proofs.Going.{calling_on, calling_same}
+
+-- the items from one on
+pub items_from : (n : ℕ) (items : List ℕ) → take (length items - n) (drop n items) ≡ drop n items
+items_from n items = take_all (length items - n) (drop n items) (omega (arith, length-drop n items))
 
 module _ (x : BayUse) (items : List ℕ) (before : Caller BayView) where
   -- what a run of overflows leaves of its caller

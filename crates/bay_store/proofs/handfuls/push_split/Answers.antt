@@ -1,4 +1,4 @@
-use Rattle.std.proofs.Common.{◌≡◌, ◌∙◌, ◌+◌, ◌*◌, ◌^◌, length, take, refl, sym, ap, subst, arith}
+use Rattle.std.proofs.Common.{◌≡◌, ◌∙◌, ◌*◌, length, take, refl, sym, ap, subst, arith}
 use Rattle.bay_rule.specs.declared.bay_use.BayUse.{BayUse}
 use Rattle.bay_rule.specs.Words.{room_at, spare_at}
 use Rattle.bay_store.proofs.DrawingSome.{handful_drawn}

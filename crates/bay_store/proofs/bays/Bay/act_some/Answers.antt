@@ -1,8 +1,8 @@
-use Rattle.std.proofs.Common.{◌≡◌, ◌∙◌, ℕ, ◌+◌, ◌-◌, ◌≤◌, inl, inr, length, refl, sym, ap, subst, arith}
+use Rattle.std.proofs.Common.{◌≡◌, ◌∙◌, ℕ, refl, sym, ap, subst, arith}
 use Rattle.bay_core.specs.History.{own}
 use Rattle.bay_core.specs.Rooms.{room_of}
 use Rattle.bay_rule.specs.declared.views.BayView.{BayView}
-use Rattle.bay_store.specs.Wishes.{op_of, items_of}
+use Rattle.bay_store.specs.Wishes.{op_of}
 use Rattle.bay_store.specs.Sharing.{MayDo}
 use Rattle.bay_store.specs.Handfuls.{DrawsSome}
 use Rattle.bay_store.proofs.ActingSome.{still_own, few_stored}

@@ -3,7 +3,7 @@ use Rattle.room_gate.specs.Shows.{Caller}
 use Rattle.bay_rule.specs.declared.views.BayView.{BayView}
 use Rattle.bay_store.specs.Handfuls.{PutsOnce}
 use Rattle.bay_store.specs.Handfuls.HasSpilled.{none, more}
-use Rattle.bay_store.proofs.PuttingSome.{ran, puts_some, left_over}
+use Rattle.bay_store.proofs.PuttingSome.{items_from, ran, puts_some, left_over}
 use Rattle.bay_store.proofs.bays.Bay.push_some.Goals as goal
 
 pub loop-pass-init : goal.loop-pass-init
@@ -23,19 +23,23 @@ pub loop-pass-preserved : goal.loop-pass-preserved
 loop-pass-preserved g c =
     let inv = c.loop-pass.invariant in
     let once = subst (λ s. PutsOnce c.args.self.now.usage (drop c.loop-pass.stored c.args.items.now) c.push_once-pass.result.1.stored s c.loop-pass.caller c.push_once-pass.result.0)
-    c.in-Overflow.is c.push_once-pass.ensures in
+    c.in-Overflow.is
+    (subst (λ l. PutsOnce c.args.self.now.usage l c.push_once-pass.result.1.stored c.push_once-pass.result.1.stop c.loop-pass.caller c.push_once-pass.result.0)
+    (items_from c.loop-pass.stored c.args.items.now) c.push_once-pass.ensures) in
     record {
       again = inv.again + 1;
       run = more inv.again c.loop-pass.stored c.push_once-pass.result.1.stored c.loop-pass.caller c.push_once-pass.result.0 inv.run once;
-      left = left_over _ _ _ _ _ _ _ inv.left once;
+      left = left_over c.args.self.now.usage c.args.items.now c.args.pass _ _ _ _ inv.left once;
     }
 
 pub returns-in_default : goal.returns-in_default
 returns-in_default g c =
     let inv = c.loop-pass.invariant in
+    let once = subst (λ l. PutsOnce c.args.self.now.usage l c.push_once-pass.result.1.stored c.push_once-pass.result.1.stop c.loop-pass.caller c.push_once-pass.result.0)
+    (items_from c.loop-pass.stored c.args.items.now) c.push_once-pass.ensures in
     let puts = puts_some c.args.self.now.usage c.args.items.now c.args.pass inv.again c.loop-pass.stored c.push_once-pass.result.1.stored
     (c.loop-pass.stored + c.push_once-pass.result.1.stored) c.loop-pass.caller c.push_once-pass.result.0 inv.run inv.left refl
-    c.push_once-pass.result.1.stop c.push_once-pass.ensures c.in_default.not-Overflow in
+    c.push_once-pass.result.1.stop once c.in_default.not-Overflow in
     record {
       gives = puts;
       same_bay = ap (λ (p : Caller BayView). p.site) puts.same;

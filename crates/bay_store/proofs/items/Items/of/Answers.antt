@@ -1,4 +1,4 @@
-use Rattle.std.proofs.Common.{◌∙◌, ◌+◌, ap, sym, arith, ◌++◌, [], ◌∷◌, get_or, length-set}
+use Rattle.std.proofs.Common.{◌∙◌, ap, sym, arith, ◌++◌, [], ◌∷◌, get_or, length-set}
 use Rattle.std.proofs.lemmas.List.{take_more, take_more_set}
 use Rattle.bay_store.proofs.items.Items.of.Goals as goal
 
