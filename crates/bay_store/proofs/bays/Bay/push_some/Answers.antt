@@ -4,6 +4,7 @@ use Rattle.bay_rule.specs.declared.views.BayView.{BayView}
 use Rattle.bay_store.specs.Handfuls.{PutsOnce}
 use Rattle.bay_store.specs.Handfuls.HasSpilled.{none, more}
 use Rattle.bay_store.proofs.PuttingSome.{items_from, ran, puts_some, left_over}
+use Rattle.bay_store.proofs.Gaining.{puts_entries}
 use Rattle.bay_store.proofs.bays.Bay.push_some.Goals as goal
 
 pub loop-pass-init : goal.loop-pass-init
@@ -42,6 +43,8 @@ returns-in_default g c =
     c.push_once-pass.result.1.stop once c.in_default.not-Overflow in
     record {
       gives = puts;
+      entries = puts_entries c.args.self.now.usage c.args.items.now c.args.pass c.who.ensures.mine inv.again c.loop-pass.stored c.push_once-pass.result.1.stored
+          (c.loop-pass.stored + c.push_once-pass.result.1.stored) c.loop-pass.caller c.push_once-pass.result.0 inv.run refl c.push_once-pass.result.1.stop once;
       same_bay = ap (λ (p : Caller BayView). p.site) puts.same;
       held = ap (λ (p : Caller BayView). p.user.held) puts.same;
     }
