@@ -94,11 +94,11 @@ module _ (x : BayUse) (who turn : ℕ) (items : List ℕ) (pages free rank new :
     | inl e ↦ absurd (omega (arith, e.1, fits.0))
     | inr d ↦ elim d [
       | inl e ↦ inl (record {
-          some = omega (arith, some, is, length-take stored items, length-drop stored items);
-          added = subst (λ n. AddedSome x.layout x.blocks turn who u w (take n items) (drop n items) (frozen_after x.layout u pages) (spare_after x.layout u free) rank (u.held - n) (u.spilled + 0)) (sym is)
-              (let spilled : u.spilled ≡ u.spilled + 0 = omega arith in
-              subst (λ n. AddedSome x.layout x.blocks turn who u w (take (places_in (cells_end x pages) rank (length items)) items) (drop (places_in (cells_end x pages) rank (length items)) items) (frozen_after x.layout u pages) (spare_after x.layout u free) rank (u.held - places_in (cells_end x pages) rank (length items)) n) spilled e.3);
-        })
+        some = omega (arith, some, is, length-take stored items, length-drop stored items);
+        added = subst (λ n. AddedSome x.layout x.blocks turn who u w (take n items) (drop n items) (frozen_after x.layout u pages) (spare_after x.layout u free) rank (u.held - n) (u.spilled + 0)) (sym is)
+            (let spilled : u.spilled ≡ u.spilled + 0 = omega arith in
+            subst (λ n. AddedSome x.layout x.blocks turn who u w (take (places_in (cells_end x pages) rank (length items)) items) (drop (places_in (cells_end x pages) rank (length items)) items) (frozen_after x.layout u pages) (spare_after x.layout u free) rank (u.held - places_in (cells_end x pages) rank (length items)) n) spilled e.3);
+      })
       | inr e ↦ absurd (omega (arith, e.2, fits.1))
     ]
   ]
@@ -108,9 +108,9 @@ module _ (x : BayUse) (who turn : ℕ) (items : List ℕ) (pages free rank new :
       | inl e ↦ absurd (omega (arith, e.2, fits.1))
       | inr e ↦ elim e.3 [
         | inl f ↦ inl (record {
-            some = omega (arith, some, is, f.0, length-take stored items);
-            added = subst (λ n. AddedSome x.layout x.blocks turn who u w (take n items) [] (frozen_after x.layout u pages) (spare_after x.layout u free) rank (u.held - n) (u.spilled + 1)) (sym is) f.1;
-          })
+          some = omega (arith, some, is, f.0, length-take stored items);
+          added = subst (λ n. AddedSome x.layout x.blocks turn who u w (take n items) [] (frozen_after x.layout u pages) (spare_after x.layout u free) rank (u.held - n) (u.spilled + 1)) (sym is) f.1;
+        })
         | inr f ↦ inr (record { none = omega (arith, is, f.0); over = refl; view = f.1; history = f.2; goes_on = f.3; stood = f.4 })
       ]
     ]
@@ -276,10 +276,10 @@ module _ (x : BayUse) (who turn : ℕ) (items : List ℕ) (pages free rank store
   drawn come fills none = elim come [
     | inl h ↦ record { draws = entered h fills; drawn = (a h fills).drawn; view = view h fills }
     | inr h ↦ (let same = none h.none in record {
-        draws = missed h same;
-        drawn = ap (λ (y : BayView). y.drawn) (e h same);
-        view = left h same;
-      })
+      draws = missed h same;
+      drawn = ap (λ (y : BayView). y.drawn) (e h same);
+      view = left h same;
+    })
   ]
 
 -- by where the cells end and the free blocks, as the code has them

@@ -146,11 +146,7 @@ fn stopped(end: u64, free: u64, rank: u64, count: usize) -> Handful
             stop: Stop::All,
         };
     }
-    let stop = if free > 0 {
-        Stop::Overflow
-    } else {
-        Stop::Full
-    };
+    let stop = if free > 0 { Stop::Overflow } else { Stop::Full };
     Handful {
         stored: cells as u32,
         stop,
