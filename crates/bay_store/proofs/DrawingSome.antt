@@ -25,6 +25,17 @@ use Rattle.bay_store.specs.declared.receipts.Handful.{Handful}
 use Rattle.bay_store.specs.declared.receipts.Stop.{Stop}
 use Rattle.bay_store.specs.declared.receipts.Stop.TheVariants.{All, Full, Overflow, Spent}
 
+-- what it told, by equal numbers
+pub told_as : (layout layout' : Layout) (blocks blocks' turn turn' who : ℕ) (items items' : List ℕ) (pages free old new : ℕ) (v w : BayView)
+    → layout ≡ layout' → blocks ≡ blocks' → turn ≡ turn' → items ≡ items'
+    → push_some_told layout blocks turn who items pages free v old new w
+    → push_some_told layout' blocks' turn' who items' pages free v old new w
+told_as layout layout' blocks blocks' turn turn' who items items' pages free old new v w e f g h t =
+    subst (λ l. push_some_told l blocks' turn' who items' pages free v old new w) e
+    (subst (λ b. push_some_told layout b turn' who items' pages free v old new w) f
+    (subst (λ n. push_some_told layout blocks n who items' pages free v old new w) g
+    (subst (λ i. push_some_told layout blocks turn who i pages free v old new w) h t)))
+
 -- what the fetch-and-add told where some items have entries
 pub record HasEntered (x : BayUse) (who turn : ℕ) (items : List ℕ) (pages free rank stored : ℕ)
     (stop : Stop) (u w : BayView) : Type 0 where
@@ -59,13 +70,15 @@ module _ (x : BayUse) (who turn : ℕ) (items : List ℕ) (pages free rank new :
 
   whole : (stored : ℕ) → stored ≡ places_in (cells_end x pages) rank (length items) → rank + length items ≤ cells_end x pages
       → AddedSome x.layout x.blocks turn who u w items [] (frozen_after x.layout u pages) (spare_after x.layout u free) rank (u.held - length items) u.spilled
-      → AddedSome x.layout x.blocks turn who u w (take stored items) [] (frozen_after x.layout u pages) (spare_after x.layout u free) rank (u.held - stored) u.spilled
+      → AddedSome x.layout x.blocks turn who u w (take stored items) [] (frozen_after x.layout u pages) (spare_after x.layout u free) rank (u.held - stored) (u.spilled + 0)
   whole stored is fits a =
       let all : stored ≡ length items = omega (arith, is, fits) in
       let these : items ≡ take stored items = sym (take_all stored items (omega (arith, all))) in
       let held : u.held - length items ≡ u.held - stored = ap (λ n. u.held - n) (sym all) in
-      subst (λ l. AddedSome x.layout x.blocks turn who u w l [] (frozen_after x.layout u pages) (spare_after x.layout u free) rank (u.held - stored) u.spilled) these
-      (subst (λ h. AddedSome x.layout x.blocks turn who u w items [] (frozen_after x.layout u pages) (spare_after x.layout u free) rank h u.spilled) held a)
+      let spilled : u.spilled ≡ u.spilled + 0 = omega arith in
+      subst (λ l. AddedSome x.layout x.blocks turn who u w l [] (frozen_after x.layout u pages) (spare_after x.layout u free) rank (u.held - stored) (u.spilled + 0)) these
+      (subst (λ h. AddedSome x.layout x.blocks turn who u w items [] (frozen_after x.layout u pages) (spare_after x.layout u free) rank h (u.spilled + 0)) held
+      (subst (λ n. AddedSome x.layout x.blocks turn who u w items [] (frozen_after x.layout u pages) (spare_after x.layout u free) rank (u.held - length items) n) spilled a))
 
   pub came : (stored : ℕ) (stop : Stop) → 1 ≤ length items → stored ≡ places_in (cells_end x pages) rank (length items)
       → StopsAt (cells_end x pages) (spare_at x.layout free) (rank + length items) stop
@@ -81,9 +94,11 @@ module _ (x : BayUse) (who turn : ℕ) (items : List ℕ) (pages free rank new :
     | inl e ↦ absurd (omega (arith, e.1, fits.0))
     | inr d ↦ elim d [
       | inl e ↦ inl (record {
-          some = omega (arith, some, is, length-take stored items, length-drop stored items);
-          added = subst (λ n. AddedSome x.layout x.blocks turn who u w (take n items) (drop n items) (frozen_after x.layout u pages) (spare_after x.layout u free) rank (u.held - n) u.spilled) (sym is) e.3;
-        })
+        some = omega (arith, some, is, length-take stored items, length-drop stored items);
+        added = subst (λ n. AddedSome x.layout x.blocks turn who u w (take n items) (drop n items) (frozen_after x.layout u pages) (spare_after x.layout u free) rank (u.held - n) (u.spilled + 0)) (sym is)
+            (let spilled : u.spilled ≡ u.spilled + 0 = omega arith in
+            subst (λ n. AddedSome x.layout x.blocks turn who u w (take (places_in (cells_end x pages) rank (length items)) items) (drop (places_in (cells_end x pages) rank (length items)) items) (frozen_after x.layout u pages) (spare_after x.layout u free) rank (u.held - places_in (cells_end x pages) rank (length items)) n) spilled e.3);
+      })
       | inr e ↦ absurd (omega (arith, e.2, fits.1))
     ]
   ]
@@ -93,9 +108,9 @@ module _ (x : BayUse) (who turn : ℕ) (items : List ℕ) (pages free rank new :
       | inl e ↦ absurd (omega (arith, e.2, fits.1))
       | inr e ↦ elim e.3 [
         | inl f ↦ inl (record {
-            some = omega (arith, some, is, f.0, length-take stored items);
-            added = subst (λ n. AddedSome x.layout x.blocks turn who u w (take n items) [] (frozen_after x.layout u pages) (spare_after x.layout u free) rank (u.held - n) (u.spilled + 1)) (sym is) f.1;
-          })
+          some = omega (arith, some, is, f.0, length-take stored items);
+          added = subst (λ n. AddedSome x.layout x.blocks turn who u w (take n items) [] (frozen_after x.layout u pages) (spare_after x.layout u free) rank (u.held - n) (u.spilled + 1)) (sym is) f.1;
+        })
         | inr f ↦ inr (record { none = omega (arith, is, f.0); over = refl; view = f.1; history = f.2; goes_on = f.3; stood = f.4 })
       ]
     ]
@@ -226,7 +241,8 @@ module _ (x : BayUse) (who turn : ℕ) (items : List ℕ) (pages free rank store
           spilled = v.spilled + 1;
           held = n;
         } in
-        let is_left : w' ≡ F v.stage (v.held - stored) = e ∙ (ap (λ z. F z v.held) (sym rests) ∙ ap (λ n. F v.stage (v.held - n)) (sym h.none)) in
+        let kept : v.held ≡ v.held - stored = omega (arith, h.none) in
+        let is_left : w' ≡ F v.stage (v.held - stored) = e ∙ (ap (λ z. F z v.held) (sym rests) ∙ ap (F v.stage) kept) in
         subst (λ y. y ≡ view_calling v y (v.held - stored)) (sym is_left) refl
 
     missed : DrawsSome x items who turn rank stored stop v w'
@@ -260,10 +276,10 @@ module _ (x : BayUse) (who turn : ℕ) (items : List ℕ) (pages free rank store
   drawn come fills none = elim come [
     | inl h ↦ record { draws = entered h fills; drawn = (a h fills).drawn; view = view h fills }
     | inr h ↦ (let same = none h.none in record {
-        draws = missed h same;
-        drawn = ap (λ (y : BayView). y.drawn) (e h same);
-        view = left h same;
-      })
+      draws = missed h same;
+      drawn = ap (λ (y : BayView). y.drawn) (e h same);
+      view = left h same;
+    })
   ]
 
 -- by where the cells end and the free blocks, as the code has them

@@ -1,6 +1,6 @@
 -- Handfuls of one call, one after another.
-use Rattle.std.proofs.Common.{◌≡◌, ◌≢◌, ◌∙◌, ℕ, ◌+◌, ◌-◌, ◌<◌, ◌≤◌, List, length, drop, refl, sym, ap, subst, arith}
-use Rattle.std.proofs.lemmas.List.{length-drop}
+use Rattle.std.proofs.Common.{◌≡◌, ◌≢◌, ◌∙◌, ℕ, ◌+◌, ◌-◌, ◌<◌, ◌≤◌, List, length, take, drop, refl, sym, ap, subst, arith}
+use Rattle.std.proofs.lemmas.List.{take_all, length-drop}
 use Rattle.room_gate.specs.Shows.{Caller}
 use Rattle.bay_core.specs.declared.calls.Layout.{Layout}
 use Rattle.bay_core.specs.declared.calls.Layout.TheVariants.{Split, Paged}
@@ -16,6 +16,10 @@ use Rattle.bay_store.specs.Handfuls.HasSpilled.{none, more}
 use Rattle.bay_store.specs.declared.receipts.Stop.{Stop}
 use Rattle.bay_store.specs.declared.receipts.Stop.TheVariants.{All, Full, Overflow, Spent}
 use Rattle.bay_store.proofs.Going.{calling_on, calling_same}
+
+-- the items from one on
+pub items_from : (n : ℕ) (items : List ℕ) → take (length items - n) (drop n items) ≡ drop n items
+items_from n items = take_all (length items - n) (drop n items) (omega (arith, length-drop n items))
 
 module _ (x : BayUse) (items : List ℕ) (before : Caller BayView) where
   -- what a run of overflows leaves of its caller
@@ -115,7 +119,8 @@ module _ (x : BayUse) (items : List ℕ) (before : Caller BayView) where
       few = omega (arith, p.1, sum, left);
       all = λ e. absurd (cc);
       spills = subst (λ (z : Caller BayView). Spills Push times before.user z.user) (sym p.2) (counted times stored mid run);
-      same = subst (λ z. z ≡ calling before z (before.draws + times) before.user.held) (sym p.2) (ran times stored mid run);
+      same = calling_same before now _ _ _ _ (omega arith) refl
+          (subst (λ z. z ≡ calling before z (before.draws + times) before.user.held) (sym p.2) (ran times stored mid run));
     }
 
   -- one overflow more leaves items to put

@@ -1,11 +1,16 @@
 -- What a handful of pushes leaves.
-use Rattle.std.specs.Prelude.{◌≡◌, ◌≢◌, ℕ, ◌+◌, ◌-◌, ◌<◌, ◌≤◌, ◌⊎◌, List, [], length, take, drop, Some, IfSome}
+use Rattle.std.specs.Prelude.{◌≡◌, ◌≢◌, ℕ, ◌+◌, ◌-◌, ◌<◌, ◌≤◌, ◌⊎◌, List, [], ◌++◌, length, map, take, drop, Some, IfSome}
 use Rattle.room_gate.specs.Shows.{Caller}
+use Rattle.bay_core.specs.declared.calls.Op.{Op}
 use Rattle.bay_core.specs.declared.calls.Op.TheVariants.{Push}
+use Rattle.bay_core.specs.declared.calls.Reply.{Reply}
+use Rattle.bay_core.specs.declared.calls.Reply.TheVariants as replies
+use Rattle.bay_core.specs.declared.calls.Entry.{Entry}
 use Rattle.bay_core.specs.declared.calls.Noted.{Noted}
 use Rattle.bay_core.specs.declared.numbers.TheConstants.{BOTTOM}
 use Rattle.bay_core.specs.Noted.{after, entries}
 use Rattle.bay_core.specs.History.{IsHistory, own, GoesOn}
+use Rattle.bay_core.specs.Told.{Gained}
 use Rattle.bay_rule.specs.declared.bay_use.BayUse.{BayUse}
 use Rattle.bay_rule.specs.declared.views.Stage.TheVariants.{Resting}
 use Rattle.bay_rule.specs.declared.views.BayView.{BayView}
@@ -137,8 +142,8 @@ PutsOnce x items stored Spent before now =
 -- how many, how many items they stored in all, and the caller after them.
 pub data HasSpilled (x : BayUse) (items : List ℕ) (before : Caller BayView)
     : ℕ → ℕ → Caller BayView → Type 0 where
-  pub none : HasSpilled x items before 0 0 before
-  pub more : (times stored part : ℕ) (mid now : Caller BayView)
+  none : HasSpilled x items before 0 0 before
+  more : (times stored part : ℕ) (mid now : Caller BayView)
       → HasSpilled x items before times stored mid
       → Puts x (drop stored items) part Overflow mid now
       → HasSpilled x items before (times + 1) (stored + part) now
@@ -162,6 +167,23 @@ pub record PutsSome (x : BayUse) (items : List ℕ) (before now : Caller BayView
   -- it made a draw for each, and nothing else changed
   pub spills : Spills Push again before.user now.user
   pub same : now ≡ calling before now (before.draws + again + draws_of h.stop) before.user.held
+
+-- what an entry says of its call: the operation, the item and the reply
+abbrev pub says : Entry → Op × (ℕ × Reply)
+says e = (e.op, (e.arg, e.reply))
+
+-- pushes of these items, in their order, with this reply
+abbrev pub pushed_as : Reply → List ℕ → List (Op × (ℕ × Reply))
+pushed_as reply items = map (λ i. (Push, (i, reply))) items
+
+-- The entries of a whole call, in order: its caller's own calls gained one for each item that is stored, with
+-- Done, and at Full one for each other item, with Full, and no others.
+pub record PutsEntries (items : List ℕ) (before now : Caller BayView) (h : Handful) : Type 0 where
+  pub entries : List Entry
+  pub gained : Gained before.who before.user.seen now.user.seen now.user.mine entries
+  pub told : map says entries
+      ≡ pushed_as replies.Done (take h.stored items)
+      ++ pushed_as replies.Full (refused_of h.stop (drop h.stored items))
 
 -- what the stores of a handful's items leave of a view: nothing to do
 abbrev pub Fills : BayView → BayView → Type 0

@@ -62,7 +62,7 @@ fn push_split(
 {
     let end = BOTTOM + 32 * rooms.usage().blocks() as u64;
     let rank = draw(rooms, inside, who, items, 0, 0);
-    let handful = stopped(end, 0, rank, items.as_slice().len());
+    let handful = stopped(end, 0, rank, items.len());
     let stored = &items.as_slice()[..handful.stored as usize];
     store_split(rooms, inside, stored, (rank - BOTTOM) as usize);
     (rank, handful)
@@ -87,7 +87,7 @@ fn push_paged(
 {
     let (pages, free) = count(rooms, inside);
     let rank = draw(rooms, inside, who, items, pages, free);
-    let handful = stopped(BOTTOM + 64 * pages, free, rank, items.as_slice().len());
+    let handful = stopped(BOTTOM + 64 * pages, free, rank, items.len());
     let stored = &items.as_slice()[..handful.stored as usize];
     store_paged(rooms, inside, stored, rank - BOTTOM);
     (rank, handful)
@@ -134,7 +134,8 @@ fn draw(
 // How many of `count` places from `rank` on are before `end`, and what stops the others, where so many
 // blocks are free.
 fn stopped(end: u64, free: u64, rank: u64, count: usize) -> Handful
-    requires { count ≤ MOST_ITEMS }
+    requires some { 1 ≤ count }
+    requires few { count ≤ MOST_ITEMS }
     ensures stored { result.stored ≡ places_in end rank count }
     ensures stop { StopsAt end free (rank + count) result.stop }
 {
@@ -145,11 +146,7 @@ fn stopped(end: u64, free: u64, rank: u64, count: usize) -> Handful
             stop: Stop::All,
         };
     }
-    let stop = if free > 0 {
-        Stop::Overflow
-    } else {
-        Stop::Full
-    };
+    let stop = if free > 0 { Stop::Overflow } else { Stop::Full };
     Handful {
         stored: cells as u32,
         stop,

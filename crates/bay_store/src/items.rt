@@ -39,6 +39,13 @@ impl Items {
         }
     }
 
+    /// How many they are.
+    pub(crate) fn len(&self) -> usize
+        ensures { result ≡ length self.now }
+    {
+        self.count
+    }
+
     /// The items in a row.
     pub(crate) fn as_slice(&self) -> &[u64]
         ensures { result.now ≡ self.now }

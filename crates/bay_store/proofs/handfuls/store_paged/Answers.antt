@@ -5,8 +5,9 @@ use Rattle.bay_core.specs.declared.calls.Layout.TheVariants.{Paged}
 use Rattle.bay_rule.specs.declared.bay_use.BayUse.{BayUse}
 use Rattle.bay_rule.specs.declared.views.BayView.{BayView}
 use Rattle.bay_rule.specs.Calls.{EntryOf, offset_of}
+use Rattle.bay_rule.specs.Leaving.{aimed}
 use Rattle.bay_rule.specs.Words.{stack_entry}
-use Rattle.bay_rule.proofs.Answering.{filling_at}
+use Rattle.bay_rule.proofs.Answering.{filling_at, filled_at}
 use Rattle.bay_store.proofs.FillingSome.{may_fill}
 use Rattle.bay_store.proofs.handfuls.store_paged.Goals as goal
 
@@ -34,3 +35,20 @@ store-requires-clause-can c =
     (ap (λ (v : BayView). v.aim) aimed)
     (ap (λ (v : BayView). v.stage) aimed
     ∙ (c.loop-i.invariant.stage ∙ filling_at (c.args.place + c.loop-i.i) c.loop-i.i c.args.items.now (omega arith)))
+
+pub loop-i-preserved : goal.loop-i-preserved
+loop-i-preserved c =
+    let i = c.loop-i.i in let inv = c.loop-i.invariant in
+    let aim = c.aim-cell.ensures in let told = c.store.ensures.told.1 in
+    let w = c.store.new.inside.caller.user in
+    let filled = filled_at c.args.place i c.args.items.now c.aim-cell.new.inside.caller.user w (omega arith)
+    (ap (λ (v : BayView). v.stage) aim.aimed ∙ inv.stage) told in
+    record {
+      stage = filled.0;
+      user = filled.1 ∙ ap (λ (y : BayView). record y { stage = w.stage; aim = w.aim })
+          (aim.aimed ∙ ap (λ (y : BayView). aimed y c.aim-cell.result) inv.user);
+      same = c.store.ensures.same
+          ∙ ap (λ (j : Insider (Unit {0}) BayView). record j { caller = record j.caller { user = w }; held = c.store.new.inside.held })
+          (aim.same ∙ ap (λ (j : Insider (Unit {0}) BayView). record j { caller = record j.caller { user = c.aim-cell.new.inside.caller.user }; held = c.aim-cell.new.inside.held }) inv.same);
+      none = λ e. absurd (omega (arith, e));
+    }

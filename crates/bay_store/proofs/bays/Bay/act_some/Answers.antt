@@ -1,9 +1,10 @@
-use Rattle.std.proofs.Common.{◌≡◌, ◌∙◌, ℕ, ◌+◌, ◌-◌, ◌≤◌, inl, inr, length, refl, sym, ap, subst, arith}
+use Rattle.std.proofs.Common.{◌≡◌, ◌∙◌, ℕ, refl, sym, ap, subst, arith}
 use Rattle.bay_core.specs.History.{own}
 use Rattle.bay_core.specs.Rooms.{room_of}
 use Rattle.bay_rule.specs.declared.views.BayView.{BayView}
-use Rattle.bay_store.specs.Wishes.{op_of, items_of}
-use Rattle.bay_store.specs.Sharing.{MayActSome, MayDo}
+use Rattle.bay_store.specs.Wishes.{op_of}
+use Rattle.bay_store.specs.Sharing.{MayDo}
+use Rattle.bay_store.specs.Handfuls.{DrawsSome}
 use Rattle.bay_store.proofs.ActingSome.{still_own, few_stored}
 use Rattle.bay_store.proofs.bays.Bay.act_some.Goals as goal
 
@@ -33,8 +34,8 @@ invariant_of-done c =
         mine = subst (λ (who : ℕ). now.user.mine ≡ own who now.user.seen)
             (sym inv.who ∙ ap (λ j. j.caller.who) (sym same)) (still_own _ _ _ _ _ _ _ _ _ d.draws (subst (λ (who : ℕ). i.inside.caller.user.mine ≡ own who i.inside.caller.user.seen) inv.who inv.rests.mine));
       };
-      few = omega (arith, draws, may.few, few_stored _ _ _ _ _ _ _ _ _ d.draws);
-      owed = omega (arith, may.shares);
+      few = omega (arith, draws, may.few, few_stored _ _ _ _ _ _ _ _ _ d.draws, c.len.ensures);
+      owed = omega (arith, may.shares, c.len.ensures);
     }
 
 pub returns : goal.returns
@@ -46,11 +47,11 @@ returns c =
     let admitted = c.turn-turn.ensures.let_in in
     let one : admitted.0 ≡ c.first-first.result = (let both = sym admitted.1 ∙ c.first-first.ensures in cc) in
     rw (sym c.inside.view_is, sym c.self.view_is, c.turn-turn.ensures.value, c.several_of-items.ensures) (record {
-      draws = d.draws;
+      draws = subst (λ n. DrawsSome c.self.inside.rooms.usage c.several_of-items.result n i.inside.opening.turn c.push_some-rank.result.0 c.push_some-rank.result.1.stored c.push_some-rank.result.1.stop i.inside.caller.user now.caller.user) (sym inv.who) d.draws;
       turn = refl;
       first = ap (λ j. j.caller.first) same ∙ c.first-first.ensures;
       soon = omega (arith, one, admitted.2.prompt);
-      owes = omega (arith, few_stored _ _ _ _ _ _ _ _ _ d.draws);
+      owes = omega (arith, few_stored _ _ _ _ _ _ _ _ _ d.draws, c.len.ensures);
       share = omega (arith, may.shares, inv.rests.held_is);
       same = same ∙ ap (λ (u : BayView). record i.inside { caller = record i.inside.caller { user = u }; held = now.held }) d.view;
     })
