@@ -4,6 +4,7 @@
 ghost use Rattle.std.specs.Prelude.{◌≡◌, ◌≤◌, ◌<◌, MatchOption};
 ghost use Rattle.bay_core.specs.declared.calls.Layout.TheVariants.{Split};
 ghost use Rattle.bay_core.specs.declared.calls.Op.TheVariants.{Push};
+ghost use Rattle.bay_store.specs.Wishes.{IsOne, op_of, item_of};
 
 use bay_core::Op;
 use bay_store::{Bay, BayActed, BayAsk, BayInside, BayPass, BayPolled, BayWaiting, Receipt};
@@ -39,9 +40,10 @@ pub fn push_in_parts<R: Wait>(
 fn goes_in<R: Wait>(rt: &R, bay: &Bay, waiting: BayWaiting) -> (BayPass, Receipt)
     requires own { waiting.waiter.caller.site ≡ bay.now.site }
     requires split { bay.now.usage.layout ≡ Split }
+    requires asked { IsOne waiting.wish }
     ensures same_bay { result.0.site ≡ bay.now.site }
-    ensures op { result.1.entry.op ≡ waiting.op }
-    ensures item { result.1.entry.arg ≡ waiting.item }
+    ensures op { result.1.entry.op ≡ op_of waiting.wish }
+    ensures item { result.1.entry.arg ≡ item_of waiting.wish }
 {
     let mut waiting = waiting;
     for _ in rt.forever() {
@@ -58,9 +60,10 @@ fn goes_in<R: Wait>(rt: &R, bay: &Bay, waiting: BayWaiting) -> (BayPass, Receipt
 fn acts(bay: &Bay, inside: BayInside) -> (BayPass, Receipt)
     requires own { inside.insider.caller.site ≡ bay.now.site }
     requires split { bay.now.usage.layout ≡ Split }
+    requires asked { IsOne inside.wish }
     ensures same_bay { result.0.site ≡ bay.now.site }
-    ensures op { result.1.entry.op ≡ inside.op }
-    ensures item { result.1.entry.arg ≡ inside.item }
+    ensures op { result.1.entry.op ≡ op_of inside.wish }
+    ensures item { result.1.entry.arg ≡ item_of inside.wish }
 {
     match bay.act(inside) {
         BayActed::Answered(done, receipt) => (bay.leave(done), receipt),

@@ -1,7 +1,10 @@
 pub mod Gaining
 pub mod Putting
+pub mod Several
 pub mod Taking
 pub mod Running
 pub mod Offering
+pub mod OfferingSome
 pub mod Stepping
+pub mod Advancing
 pub mod WholeDrives

@@ -1,5 +1,5 @@
 -- One offer, and all offers.
-use Rattle.std.proofs.Common.{◌≡◌, ◌⊎◌, ℕ, ◌+◌, ◌^◌, ◌<◌, ◌≤◌, inl, inr, cond, eqb, List, [], ◌∷◌, ◌++◌, length, All, refl, sym, ap, ◌∙◌, subst, arith}
+use Rattle.std.proofs.Common.{◌≡◌, ◌⊎◌, ℕ, ◌+◌, ◌*◌, ◌^◌, ◌<◌, ◌≤◌, inl, inr, cond, eqb, List, [], ◌∷◌, ◌++◌, length, All, refl, sym, ap, ◌∙◌, subst, arith}
 use Rattle.std.specs.Prelude.{Some}
 use Rattle.std.specs.List.{Contains}
 use Rattle.std.proofs.lemmas.Bool.{cases_eq}
@@ -19,7 +19,8 @@ use Rattle.work_pool.specs.Gaining.{Gains}
 use Rattle.work_pool.specs.Puts.{IsStill, Puts}
 use Rattle.work_pool.specs.Deeds.{calls, missed, tried, stored}
 use Rattle.work_pool.specs.Drives.{MayOffer, Went, Loud}
-use Rattle.work_pool.specs.Running.{Asks, Stock, Goes, Tallies, PutsBy, OffersOne, OffersAll}
+use Rattle.bay_core.specs.declared.numbers.TheConstants.{MOST_ITEMS}
+use Rattle.work_pool.specs.Running.{Asks, Stock, Goes, Tallies, PutsBy, OffersOne, OffersMore, OffersAll}
 use Rattle.work_pool.specs.declared.pools.Way.{Way}
 use Rattle.work_pool.specs.declared.puts.Put.{Put}
 use Rattle.work_pool.specs.declared.puts.Put.TheVariants as put
@@ -136,7 +137,7 @@ module _ (leads : ℕ → ℕ → Type 0) (was mid : Standing) (item : ℕ) (g :
         goes = record {
           runs = record {
             went = went_offer x before.caller now.caller (r.entry ∷ []) p.gains p.still d refl refl;
-            few = drew_one x before.caller now.caller r.entry p.gains;
+            few = omega (arith, drew_one x before.caller now.caller r.entry p.gains);
             follows = (((p.adds.call.op_is, p.adds.call.arg, p.reply_is), may_first), tt);
             given = ap (λ (s : Standing). s.given) by.0 ∙ given_more;
             done = ap (λ (s : Standing). s.done) by.0 ∙ (done_same ∙ sym (append-nil was.done));
@@ -207,6 +208,17 @@ module _ (leads : ℕ → ℕ → Type 0) (was mid : Standing) (item : ℕ) (g :
         };
       }
 
+-- an offer of one item is one of some
+pub one_offer : (x : BayUse) (way : Way) (leads : ℕ → ℕ → Type 0) (before now : Worker) (was is : Standing) (drive then : Drive)
+    → OffersOne x way leads before now was is drive then → OffersMore x way leads before now was is drive then
+one_offer x way leads before now was is drive then o = record {
+  run = o.deed ∷ [];
+  goes = o.goes;
+  held = o.held;
+  fewer = omega (arith, o.fewer);
+  tallies = o.tallies;
+}
+
 -- offers were made, and more may be to come
 pub record OffersSoFar (x : BayUse) (way : Way) (leads : ℕ → ℕ → Type 0) (before now : Worker) (was is : Standing)
     (drive then : Drive) : Type 0 where
@@ -228,18 +240,18 @@ no_offer x way leads hand was drive is room kept = record {
   tallies = tallies_none drive kept;
 }
 
-no_less : (xs ys : List ℕ) → xs ≡ [] → length xs ≡ length ys + 1 → ⊥
+no_less : (xs ys : List ℕ) → xs ≡ [] → length ys < length xs → ⊥
 no_less xs ys none more = absurd (omega (arith, ap length none, more))
 
 module _ (x : BayUse) (way : Way) (leads after : ℕ → ℕ → Type 0) (weaker : (y x : ℕ) → after y x → leads y x) (before now then : Worker) (was mid is : Standing) (drive so_far next : Drive) (s : OffersSoFar x way leads before now was mid drive so_far) where
   -- one more
-  pub offer_more : OffersOne x way after now then mid is so_far next → OffersSoFar x way leads before then was is drive next
+  pub offer_more : OffersMore x way after now then mid is so_far next → OffersSoFar x way leads before then was is drive next
   offer_more o = record {
-    run = s.run ++ o.deed ∷ [];
-    goes = goes_more x way leads after weaker before now then was mid is s.run (o.deed ∷ []) s.goes o.goes;
+    run = s.run ++ o.run;
+    goes = goes_more x way leads after weaker before now then was mid is s.run o.run s.goes o.goes;
     held = o.held ∙ s.held;
     idle = λ none. absurd (no_less mid.to_give is.to_give (ap (λ (z : Standing). z.to_give) (s.idle none) ∙ none) o.fewer);
-    tallies = tallies_more drive so_far next s.run (o.deed ∷ []) s.tallies o.tallies;
+    tallies = tallies_more drive so_far next s.run o.run s.tallies o.tallies;
   }
 
 -- nothing is to be given
@@ -260,7 +272,7 @@ offers_end x way leads before now then was mid is drive so_far s still same none
 
 -- a share is still held where something is to be given
 pub share_more : (now then : Worker) (mid is : Standing) → then.caller.user.held ≡ now.caller.user.held
-    → length mid.to_give ≡ length is.to_give + 1
+    → length is.to_give < length mid.to_give
     → (1 ≤ now.caller.user.held) ⊎ (mid.to_give ≡ []) → (1 ≤ then.caller.user.held) ⊎ (is.to_give ≡ [])
 share_more now then mid is held fewer share = elim share [
   | inl some ↦ inl (omega (arith, some, held))
@@ -269,7 +281,7 @@ share_more now then mid is held fewer share = elim share [
 
 -- the offers that were stored are no more than the draws
 pub small_then : (x : BayUse) (way : Way) (leads : ℕ → ℕ → Type 0) (before now : Worker) (was is : Standing) (drive then : Drive)
-    → OffersSoFar x way leads before now was is drive then → drive.shared ≤ before.caller.draws
-    → (then.shared ≤ now.caller.draws) × (then.kept < 2 ^ 64)
+    → OffersSoFar x way leads before now was is drive then → drive.shared ≤ MOST_ITEMS * before.caller.draws
+    → (then.shared ≤ MOST_ITEMS * now.caller.draws) × (then.kept < 2 ^ 64)
 small_then x way leads before now was is drive then s small =
     (omega (arith, s.tallies.shared, s.goes.runs.few, small), omega (arith, s.tallies.kept))

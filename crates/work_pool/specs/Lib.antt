@@ -3,10 +3,12 @@ pub mod Tokens
 pub mod Ways
 pub mod Gaining
 pub mod Puts
+pub mod Several
 pub mod Takes
 pub mod Tries
 pub mod Standing
 pub mod Deeds
 pub mod Drives
 pub mod Running
+pub mod Advancing
 pub mod Crews

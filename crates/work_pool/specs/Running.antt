@@ -1,10 +1,11 @@
 -- What the parts of a drive leave, one after another.
-use Rattle.std.specs.Prelude.{◌≡◌, ℕ, ◌+◌, ◌-◌, ◌^◌, ◌<◌, ◌≤◌, min, List, [], ◌∷◌, ◌++◌, length, All, Option, Some, None, ⊤}
+use Rattle.std.specs.Prelude.{◌≡◌, ℕ, ◌+◌, ◌-◌, ◌*◌, ◌^◌, ◌<◌, ◌≤◌, min, List, [], ◌∷◌, ◌++◌, length, All, Option, Some, None, ⊤}
 use Rattle.room_gate.specs.Shows.{Caller}
 use Rattle.bay_rule.specs.declared.bay_use.BayUse.{BayUse}
 use Rattle.bay_rule.specs.declared.views.BayView.{BayView}
 use Rattle.bay_rule.specs.Leaving.{first_of}
 use Rattle.bay_store.specs.Sharing.{holding}
+use Rattle.bay_core.specs.declared.numbers.TheConstants.{MOST_ITEMS}
 use Rattle.bay_core.specs.Times.{times}
 use Rattle.work_pool.specs.Shows.{Worker}
 use Rattle.work_pool.specs.Standing.{Standing, Handles, Keeps, Lacks}
@@ -28,7 +29,8 @@ EachFollows May past (d ∷ run) = May past d run × EachFollows May (past ++ d 
 pub record Runs (x : BayUse) (way : Way) (leads : ℕ → ℕ → Type 0) (before now : Worker) (was is : Standing)
     (run : List Deed) : Type 0 where
   pub went : Went x before.caller now.caller run
-  pub few : before.caller.draws + length (stored run) ≤ now.caller.draws
+  -- no draw stored more items than a handful has
+  pub few : MOST_ITEMS * before.caller.draws + length (stored run) ≤ MOST_ITEMS * now.caller.draws
   pub follows : EachFollows (MayFollow way leads now.caller was) [] run
   pub given : is.given ≡ was.given ++ offered run
   pub done : is.done ≡ was.done ++ handled run
@@ -71,7 +73,17 @@ PutsBy (put.Full item) was is drive then =
 PutsBy (put.Spent item) was is drive then =
     Keeps item was is × (then ≡ record drive { kept = min (drive.kept + 1) (2 ^ 64 - 1) })
 
--- one offer, if there was an item to give
+-- the work gave these items, the first of those that were to be given
+pub record GivesSome (items : List ℕ) (before now : Standing) : Type 0 where
+  pub first : before.to_give ≡ items ++ now.to_give
+  pub same : now ≡ record before { given = before.given ++ items; to_give = now.to_give }
+
+-- it keeps these items more
+pub record KeepsSome (items : List ℕ) (before now : Standing) : Type 0 where
+  pub kept : (n : ℕ) → times n now.kept_items ≡ times n before.kept_items + times n items
+  pub same : now ≡ record before { kept_items = now.kept_items; spare = before.spare - length items }
+
+-- one offer of one item
 pub record OffersOne (x : BayUse) (way : Way) (leads : ℕ → ℕ → Type 0) (before now : Worker) (was is : Standing)
     (drive then : Drive) : Type 0 where
   pub deed : Deed
@@ -80,11 +92,20 @@ pub record OffersOne (x : BayUse) (way : Way) (leads : ℕ → ℕ → Type 0) (
   pub fewer : length was.to_give ≡ length is.to_give + 1
   pub tallies : Tallies drive then (deed ∷ [])
 
+-- one offer, of one item or of several
+pub record OffersMore (x : BayUse) (way : Way) (leads : ℕ → ℕ → Type 0) (before now : Worker) (was is : Standing)
+    (drive then : Drive) : Type 0 where
+  pub run : List Deed
+  pub goes : Goes x way leads before now was is run
+  pub held : now.caller.user.held ≡ before.caller.user.held
+  pub fewer : length is.to_give < length was.to_give
+  pub tallies : Tallies drive then run
+
 -- the next offer, or none where there was nothing to give
 abbrev pub OffersNext : BayUse → Way → (ℕ → ℕ → Type 0) → Worker → Worker → Standing → Standing → Drive
     → Option Drive → Type 0
 OffersNext x way leads before now was is drive (Some then) =
-    OffersOne x way leads before now was is drive then
+    OffersMore x way leads before now was is drive then
 OffersNext x way leads before now was is drive None =
     (now ≡ before) × (is ≡ was) × (was.to_give ≡ [])
 

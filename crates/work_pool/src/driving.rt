@@ -2,21 +2,23 @@
 ghost use Rattle.std.specs.Prelude.{◌≡◌, ◌↔◌, ◌⊎◌, ◌≤◌, ℕ, [], length};
 ghost use Rattle.work_pool.specs.Drives.{Drives};
 
+use crate::advances::advance;
 use crate::drives::Drive;
 use crate::gates::Gate;
 use crate::hands::Hand;
-use crate::offers::offer_all;
 use crate::pools::Pool;
-use crate::steps::{Did, next_step};
+use crate::steps::Did;
 use crate::works::Work;
 use std::alloc::AllocError;
 use std::sync::Wait;
 
 /// Drives the work over the pool, with a hand of its bay that holds one share, or none where the work
-/// has nothing to give and keeps nothing. It offers all that the work gives, and has the work keep
-/// what comes back; then the work handles an item: one that it keeps, or else one that is taken.
-/// After each handled item it offers again, until the bay is quiet or the pass is spent. The hand
-/// then holds no share. It waits as `put` and `take` do, and takes no memory but the work's.
+/// has nothing to give and keeps nothing. It offers all that the work gives, over the stack up to 32
+/// items at a time and over the queue one by one, and has the work keep what comes back; then the work
+/// handles an item: one that it keeps, or else one that is taken. After each handled item it offers
+/// again, until the bay is quiet or the pass is spent; over the stack it does so only once the work has
+/// 32 items to give or keeps none, where the work tells that it has fewer. The hand then holds no share.
+/// It waits as `put`, `put_some` and `take` do, and takes no memory but the work's.
 ///
 /// # Errors
 ///
@@ -45,10 +47,9 @@ pub fn drive<R: Wait, W: Work, G: Gate>(
         quiet: false,
     };
     for _ in rt.forever() {
-        let (offering, offered) = offer_all(rt, pool, hand, work, drive);
-        let (after, did) = next_step(rt, pool, offering, gate, work);
+        let (after, did, then) = advance(rt, pool, hand, gate, work, drive);
         hand = after;
-        drive = offered;
+        drive = then;
         match did {
             Did::Handled => {}
             Did::Wanting(error) => return (hand, Err(error)),

@@ -1,16 +1,18 @@
 //! Offering what a work gives.
-ghost use Rattle.std.specs.Prelude.{◌≡◌, ◌↔◌, ◌⊎◌, ◌≤◌, ◌<◌, ◌^◌, ℕ, [], length};
+ghost use Rattle.std.specs.Prelude.{◌≡◌, ◌↔◌, ◌⊎◌, ◌≤◌, ◌<◌, ◌^◌, ◌*◌, ℕ, [], length};
+ghost use Rattle.bay_core.specs.declared.numbers.TheConstants.{MOST_ITEMS};
 ghost use Rattle.work_pool.specs.Running.{PutsBy, OffersNext, OffersAll};
 
 use crate::drives::Drive;
 use crate::hands::Hand;
-use crate::pools::Pool;
+use crate::pools::{Pool, Way};
 use crate::puts::Put;
+use crate::offers_some::offer_some;
 use crate::works::Work;
 use std::sync::Wait;
 
-// Offers all that the work gives, one after another, with a hand that holds a share if there is
-// something to give, and keeps what comes back. It counts the offers on. It waits as `put` does, and
+// Offers all that the work gives, in its order, with a hand that holds a share if there is something to
+// give, and keeps what comes back. It counts the offers on. It waits as `put` and `put_some` do, and
 // takes no memory.
 pub(crate) fn offer_all<R: Wait, W: Work>(
     rt: &R,
@@ -22,7 +24,7 @@ pub(crate) fn offer_all<R: Wait, W: Work>(
     requires own { hand.caller.site ≡ pool.now.site }
     requires share { (1 ≤ hand.caller.user.held) ⊎ ((W.stands work.old).to_give ≡ []) }
     requires room { length (W.stands work.old).to_give ≤ (W.stands work.old).spare }
-    requires small { (drive.shared ≤ hand.caller.draws) × (drive.kept < 2 ^ 64) }
+    requires small { (drive.shared ≤ MOST_ITEMS * hand.caller.draws) × (drive.kept < 2 ^ 64) }
     ensures offers { OffersAll pool.now.usage pool.now.way (W.leads work.old) hand result.0 (W.stands work.old) (W.stands work.new) drive result.1 }
     ensures same_bay { result.0.caller.site ≡ hand.caller.site }
     ensures leads { (y : ℕ) (x : ℕ) → W.leads work.new y x ↔ W.leads work.old y x }
@@ -42,8 +44,8 @@ pub(crate) fn offer_all<R: Wait, W: Work>(
     }
 }
 
-// Offers the first item that the work gives, if it gives one, and keeps it if it comes back. It
-// answers how many offers there were then, or none if there was nothing to give.
+// Offers the first item that the work gives, or over the stack the first ones, and keeps what comes back.
+// It answers how many offers there were then, or none if there was nothing to give.
 fn offer_next<R: Wait, W: Work>(
     rt: &R,
     pool: &Pool,
@@ -54,7 +56,30 @@ fn offer_next<R: Wait, W: Work>(
     requires own { hand.caller.site ≡ pool.now.site }
     requires share { (1 ≤ hand.caller.user.held) ⊎ ((W.stands work.old).to_give ≡ []) }
     requires room { length (W.stands work.old).to_give ≤ (W.stands work.old).spare }
-    requires small { (drive.shared ≤ hand.caller.draws) × (drive.kept < 2 ^ 64) }
+    requires small { (drive.shared ≤ MOST_ITEMS * hand.caller.draws) × (drive.kept < 2 ^ 64) }
+    ensures offers { OffersNext pool.now.usage pool.now.way (W.leads work.old) hand result.0 (W.stands work.old) (W.stands work.new) drive result.1 }
+    ensures same_bay { result.0.caller.site ≡ hand.caller.site }
+    ensures leads { (y : ℕ) (x : ℕ) → W.leads work.new y x ↔ W.leads work.old y x }
+    ensures made { W.made work.new ≡ W.made work.old }
+{
+    match pool.way {
+        Way::Stack => offer_some(rt, pool, hand, work, drive),
+        Way::Queue => offer_one(rt, pool, hand, work, drive),
+    }
+}
+
+// Offers the first item that the work gives by a put, if it gives one.
+fn offer_one<R: Wait, W: Work>(
+    rt: &R,
+    pool: &Pool,
+    hand: Hand,
+    work: &mut W,
+    drive: Drive,
+) -> (Hand, Option<Drive>)
+    requires own { hand.caller.site ≡ pool.now.site }
+    requires share { (1 ≤ hand.caller.user.held) ⊎ ((W.stands work.old).to_give ≡ []) }
+    requires room { length (W.stands work.old).to_give ≤ (W.stands work.old).spare }
+    requires small { (drive.shared ≤ MOST_ITEMS * hand.caller.draws) × (drive.kept < 2 ^ 64) }
     ensures offers { OffersNext pool.now.usage pool.now.way (W.leads work.old) hand result.0 (W.stands work.old) (W.stands work.new) drive result.1 }
     ensures same_bay { result.0.caller.site ≡ hand.caller.site }
     ensures leads { (y : ℕ) (x : ℕ) → W.leads work.new y x ↔ W.leads work.old y x }
@@ -74,7 +99,7 @@ fn offer_next<R: Wait, W: Work>(
 // Counts an offer on, and keeps its item if it came back.
 fn count_offer<W: Work>(work: &mut W, put: Put, drive: Drive) -> Drive
     requires room { 1 ≤ (W.stands work.old).spare }
-    requires few { drive.shared ≤ 2 ^ 48 }
+    requires few { drive.shared ≤ MOST_ITEMS * 2 ^ 48 }
     ensures puts { PutsBy put (W.stands work.old) (W.stands work.new) drive result }
     ensures leads { (y : ℕ) (x : ℕ) → W.leads work.new y x ↔ W.leads work.old y x }
     ensures made { W.made work.new ≡ W.made work.old }

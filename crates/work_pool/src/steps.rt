@@ -77,7 +77,7 @@ fn take_one<R: Wait, W: Work, G: Gate>(
 }
 
 // Handles this item with a hand that holds a share, which it gives back on want of memory.
-fn handle_one<W: Work>(pool: &Pool, hand: Hand, work: &mut W, item: u64) -> (Hand, Did)
+pub(crate) fn handle_one<W: Work>(pool: &Pool, hand: Hand, work: &mut W, item: u64) -> (Hand, Did)
     requires own { hand.caller.site ≡ pool.now.site }
     requires share { hand.caller.user.held ≡ 1 }
     ensures handles { HandlesOne (W.leads work.old item) item hand result.0 (W.stands work.old) (W.stands work.new) result.1 }

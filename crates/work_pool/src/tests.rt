@@ -5,6 +5,7 @@ use std::test::Fail;
 
 mod alone;
 mod halving;
+mod handfuls;
 mod pools;
 
 // A gate that adds up what it was asked.

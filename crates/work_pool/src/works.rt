@@ -1,5 +1,6 @@
 //! Work that a caller does on items, by which it comes to further items.
-ghost use Rattle.std.specs.Prelude.{◌≡◌, ◌↔◌, ◌≤◌, ℕ, OnOk, OnErr};
+ghost use Rattle.std.specs.Prelude.{◌≡◌, ◌↔◌, ◌≤◌, ◌<◌, ℕ, false, length, OnOk, OnErr};
+ghost use Rattle.bay_core.specs.declared.numbers.TheConstants.{MOST_ITEMS};
 ghost use Rattle.work_pool.specs.Standing.{Standing, Handles, Gives, Keeps, Unkeeps, Lacks};
 
 use std::alloc::AllocError;
@@ -49,4 +50,13 @@ pub trait Work {
         ensures unkeeps { Unkeeps (stands self.old) (stands self.new) result }
         ensures leads { (y : ℕ) (x : ℕ) → leads self.new y x ↔ leads self.old y x }
         ensures made { made self.new ≡ made self.old };
+
+    /// Whether as many items are to be given as one offer may have, 32, as far as the work tells: it
+    /// answers false only where fewer are. A drive over the stack then has it handle what it keeps before
+    /// it offers. A work that does not tell answers true. It takes no memory.
+    fn has_handful(&self) -> bool
+        ensures { result ≡ false → length (stands self.now).to_give < MOST_ITEMS }
+    {
+        true
+    }
 }

@@ -1,9 +1,9 @@
 //! Drives over a bay of one block, on one thread.
-ghost use Rattle.std.specs.Prelude.{◌≡◌, ◌≤◌, ◌^◌};
+ghost use Rattle.std.specs.Prelude.{◌≡◌, ◌≤◌, ◌^◌, length};
 
 use super::halving::Twice;
 use super::pools::hand_of;
-use crate::{Drive, Gate, OpenGate, Pool, Way, drive};
+use crate::{Drive, Gate, Hand, OpenGate, Pool, Way, drive};
 use bay_core::Layout;
 use bay_store::{Bay, BayPass, Closed};
 use std::alloc::{AllocError, Global};
@@ -14,12 +14,12 @@ use std::sync::Wait;
 // What a drive left: how many items were handled, the shares of the pass, how many questions it asked,
 // and the closed bay.
 #[derive(Drop)]
-struct Left {
-    driven: Result<Drive, AllocError>,
-    handled: usize,
-    held: u64,
-    asked: u64,
-    closed: Closed,
+pub(crate) struct Left {
+    pub(crate) driven: Result<Drive, AllocError>,
+    pub(crate) handled: usize,
+    pub(crate) held: u64,
+    pub(crate) asked: u64,
+    pub(crate) closed: Closed,
 }
 
 // Closes a bay of one caller.
@@ -35,19 +35,21 @@ fn close_one(alloc: Global, bay: Bay, pass: BayPass) -> Result<Closed, AllocErro
     }
 }
 
-// Drives work that gives 3 first, with so many draws, through the stack.
-fn drive_alone<R: Wait + Abort, G: Gate>(
+// Drives the work through the stack of a bay of one caller, which it closes then.
+pub(crate) fn left_of<R: Wait, G: Gate>(
     rt: &R,
     alloc: Global,
-    draws: u64,
-    lacks: bool,
+    bay: Bay,
+    hand: Hand,
+    work: Twice,
     gate: &G,
 ) -> Result<Left, AllocError>
-    requires { draws ≤ 2 ^ 48 }
+    requires own { hand.caller.site ≡ bay.site }
+    requires one { bay.callers ≡ 1 }
+    requires share { hand.caller.user.held ≡ 1 }
+    requires room { length work.to_give ≤ work.spare }
 {
-    let (bay, mut passes) = Bay::set_up(alloc, Layout::Split, 1, 1, draws)?;
-    let hand = hand_of(&bay, &mut passes).expect(rt, "a hand");
-    let mut work = Twice::new(alloc, 3, lacks)?;
+    let mut work = work;
     let pool = Pool::over(&bay, Way::Stack);
     let (hand, driven) = drive(rt, &pool, hand, gate, &mut work);
     let held = hand.held();
@@ -63,8 +65,24 @@ fn drive_alone<R: Wait + Abort, G: Gate>(
     })
 }
 
+// Drives work that gives 3 first, with so many draws, through the stack.
+fn drive_alone<R: Wait + Abort, G: Gate>(
+    rt: &R,
+    alloc: Global,
+    draws: u64,
+    lacks: bool,
+    gate: &G,
+) -> Result<Left, AllocError>
+    requires { draws ≤ 2 ^ 48 }
+{
+    let (bay, mut passes) = Bay::set_up(alloc, Layout::Split, 1, 1, draws)?;
+    let hand = hand_of(&bay, &mut passes).expect(rt, "a hand");
+    let work = Twice::new(alloc, 3, lacks)?;
+    left_of(rt, alloc, bay, hand, work, gate)
+}
+
 // The answer of a drive that memory did not stop.
-fn driven_so(shared: u64, kept: u64, quiet: bool) -> Result<Drive, AllocError> {
+pub(crate) fn driven_so(shared: u64, kept: u64, quiet: bool) -> Result<Drive, AllocError> {
     Ok(Drive {
         shared,
         kept,
@@ -83,7 +101,7 @@ fn a_drive_ends_where_the_bay_is_quiet(rt: HostRuntime) -> Result<(), AllocError
 
 #[test]
 fn a_spent_drive_leaves_its_items_in_the_pool(rt: HostRuntime) -> Result<(), AllocError> {
-    let left = drive_alone(&rt, rt.alloc(), 4, false, &OpenGate)?;
+    let left = drive_alone(&rt, rt.alloc(), 3, false, &OpenGate)?;
     assert_eq!(rt; left.driven, driven_so(3, 0, false));
     assert_eq!(rt; (left.handled, left.held), (1, 0));
     assert_eq!(rt; left.closed.stack.as_slice(), [2, 2].as_slice());
@@ -93,8 +111,8 @@ fn a_spent_drive_leaves_its_items_in_the_pool(rt: HostRuntime) -> Result<(), All
 
 #[test]
 fn what_comes_back_is_kept_and_handled(rt: HostRuntime) -> Result<(), AllocError> {
-    let left = drive_alone(&rt, rt.alloc(), 3, false, &OpenGate)?;
-    assert_eq!(rt; left.driven, driven_so(2, 7, false));
+    let left = drive_alone(&rt, rt.alloc(), 4, false, &OpenGate)?;
+    assert_eq!(rt; left.driven, driven_so(3, 6, false));
     assert_eq!(rt; (left.handled, left.held), (8, 0));
     assert_eq!(rt; left.closed.stack.as_slice(), [2].as_slice());
     assert_eq!(rt; left.closed.live, 1);
@@ -128,7 +146,7 @@ impl Gate for Follows {
 
 #[test]
 fn a_drive_asks_with_one_number_after_another(rt: HostRuntime) -> Result<(), AllocError> {
-    for (draws, questions) in [(1000, 16), (4, 2), (3, 2)] {
+    for (draws, questions) in [(1000, 16), (4, 3), (3, 2)] {
         let gate = Follows {
             next: Cell::new(0),
             others: Cell::new(0),

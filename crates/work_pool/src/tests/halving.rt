@@ -3,6 +3,7 @@ ghost use Rattle.std.specs.Prelude.{◌≡◌, ◌+◌, ◌≤◌, ℕ, IfOk, On
 ghost use Rattle.work_pool.specs.Standing.{Lacks};
 
 use crate::Work;
+use bay_core::MOST_ITEMS;
 use std::alloc::{AllocError, Global};
 use std::marker::Model;
 
@@ -121,6 +122,10 @@ impl Work for Twice {
 
     fn kept(&mut self) -> Option<u64> {
         self.kept.pop()
+    }
+
+    fn has_handful(&self) -> bool {
+        self.all.len() - self.at >= MOST_ITEMS
     }
 }
 

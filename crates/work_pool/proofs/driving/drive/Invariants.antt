@@ -1,5 +1,6 @@
 use Rattle.std.proofs.Common.{◌≡◌, ℕ, ◌↔◌}
-use Rattle.work_pool.proofs.WholeDrives.{DrivesSoFar, HasShare}
+use Rattle.work_pool.proofs.Advancing.{HasShare}
+use Rattle.work_pool.proofs.WholeDrives.{DrivesSoFar}
 use Rattle.work_pool.proofs.driving.drive.Given as goal
 
 abbrev pub invariant-loop : goal.invariant-loop
