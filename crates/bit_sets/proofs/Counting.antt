@@ -87,8 +87,3 @@ rank_below many place w n mask words xs wide long shows below read is_mask =
     ap (λ (m : ℕ). bit_and w (m - 1)) is_mask ∙ and_mask w k ∙ ap (λ (z : ℕ). z % 2 ^ k) is in
     (λ i. rank (sym shows i) (sym there i)) ∙ part
     ∙ (λ i. rank (shows i) (64 * (place / 64)) + count_ones (sym masked i))
-
--- how many of the set stand before each of the first blocks
-pub record Counts (set : List Bool) (blocks : ℕ) (before : List ℕ) : Type 0 where
-  pub long : length before ≡ blocks
-  pub each : (block : ℕ) → block < blocks → get_or before block 0 ≡ rank set (64 * block)

@@ -1,6 +1,6 @@
 use Rattle.std.proofs.Common.{◌≡◌, ◌*◌}
 use Rattle.bit_sets.specs.Rank.{rank}
-use Rattle.bit_sets.proofs.Counting.{Counts}
+use Rattle.bit_sets.specs.RankedModel.{Counts}
 use Rattle.bit_sets.proofs.ranked_bits.RankedBits.from_bits.Given as goal
 
 -- the blocks before this one are counted
