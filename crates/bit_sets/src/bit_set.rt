@@ -6,7 +6,8 @@ ghost use Rattle.bit_sets.specs.Next.{IsNext};
 use std::alloc::{AllocError, Global};
 use std::marker::Model;
 
-/// A set of numbers below a length, one bit each. It shows for each number whether it is in it.
+/// A set of numbers below a length, one bit each. It shows for each number below its length whether
+/// it has it.
 #[derive(Drop)]
 pub struct BitSet {
     words: Vec<u64>,
@@ -26,8 +27,8 @@ impl Model for BitSet {
 }
 
 impl BitSet {
-    /// The empty set of numbers below `bits`. It takes memory: 64 bits for each 64 numbers, and for
-    /// the rest.
+    /// The empty set of numbers below `bits`. It takes memory: a word of 64 bits for each 64 numbers,
+    /// and one for the rest.
     ///
     /// # Errors
     ///
@@ -39,7 +40,7 @@ impl BitSet {
         Ok(BitSet { words, len: bits })
     }
 
-    /// Below what all numbers of the set are.
+    /// The length: all numbers of the set are below it.
     #[inline]
     pub fn len(&self) -> usize
         ensures { result ≡ length self.now }
@@ -47,7 +48,7 @@ impl BitSet {
         self.len
     }
 
-    /// Whether the number is in the set.
+    /// Whether the set has the number, which is below the length.
     #[inline]
     pub fn contains(&self, place: usize) -> bool
         requires { place < length self.now }
@@ -56,7 +57,8 @@ impl BitSet {
         (self.words[place / 64] >> (place % 64)) & 1 == 1
     }
 
-    /// Puts the number into the set, and answers whether it was new.
+    /// Puts the number, which is below the length, into the set, and answers whether it was new. The
+    /// set is else as it was.
     #[inline]
     pub fn insert(&mut self, place: usize) -> bool
         requires { place < length self.old }
@@ -68,7 +70,8 @@ impl BitSet {
         (was >> (place % 64)) & 1 == 0
     }
 
-    /// The least number of the set that is not below `place`, and none where there is none.
+    /// The least number of the set that is not below the place, and none where there is none; the
+    /// place is at most the length. It looks at 64 numbers at once.
     #[inline]
     pub fn next_from(&self, place: usize) -> Option<usize>
         requires { place ≤ length self.now }

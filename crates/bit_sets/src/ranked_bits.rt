@@ -6,8 +6,8 @@ use crate::bit_set::BitSet;
 use std::alloc::{AllocError, Global};
 use std::marker::Model;
 
-/// A set of numbers below a length, at most 2^32 - 1, that tells at once how many of it stand below a
-/// number. It shows for each number whether it is in it.
+/// A set of numbers below a length, at most 2^32 - 1, that tells at once how many of them stand below
+/// a place. It shows for each number below its length whether it has it.
 #[derive(Drop)]
 pub struct RankedBits {
     set: BitSet,
@@ -27,11 +27,12 @@ impl Model for RankedBits {
 }
 
 impl RankedBits {
-    /// Counts the set. It takes memory: 32 bits for each 64 numbers, and for the rest.
+    /// Counts the set, whose length is at most 2^32 - 1. It takes memory: 32 bits for each 64 numbers,
+    /// and for the rest.
     ///
     /// # Errors
     ///
-    /// Want of memory alone.
+    /// Want of memory alone; the set is then gone.
     pub fn from_bits(alloc: Global, set: BitSet) -> Result<RankedBits, AllocError>
         requires { length set < 2 ^ 32 }
         ensures { IfOk result (λ ranked. ranked ≡ set) }
@@ -47,7 +48,7 @@ impl RankedBits {
         Ok(RankedBits { set, before })
     }
 
-    /// Whether the number is in the set.
+    /// Whether the set has the number, which is below the length.
     #[inline]
     pub fn contains(&self, place: usize) -> bool
         requires { place < length self.now }
@@ -65,7 +66,7 @@ impl RankedBits {
         self.before[place / 64] + self.set.block_rank(place)
     }
 
-    /// How many numbers the set has.
+    /// How many numbers the set has in all.
     #[inline]
     pub fn count(&self) -> u32
         ensures { result ≡ rank self.now (length self.now) }
@@ -73,9 +74,9 @@ impl RankedBits {
         self.rank(self.set.len())
     }
 
-    /// The set without its counts.
+    /// The set without its counts: its length, and what comes next in it.
     #[inline]
-    pub fn set(&self) -> &BitSet
+    pub fn bits(&self) -> &BitSet
         ensures { result.now ≡ self.now }
     {
         &self.set

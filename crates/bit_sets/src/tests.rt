@@ -57,7 +57,7 @@ fn ranks_count_the_numbers_below(rt: HostRuntime) -> Result<(), AllocError> {
         let mut set = BitSet::none(rt.alloc(), len)?;
         insert_all(&mut set, numbers);
         let ranked = RankedBits::from_bits(rt.alloc(), set)?;
-        assert_eq!(rt; ranked.set().len(), len);
+        assert_eq!(rt; ranked.bits().len(), len);
         assert_eq!(rt; ranked.count() as usize, numbers.len());
         assert_eq!(rt; ranked.rank(len) as usize, numbers.len());
         for place in 0..len {
