@@ -1,5 +1,5 @@
 -- The steps of a handful may be made, in a room whose number is known.
-use Rattle.std.proofs.Common.{◌≡◌, ℕ, ◌+◌, ◌∷◌, List, None, sym, subst}
+use Rattle.std.proofs.Common.{◌≡◌, ℕ, ◌∷◌, List, None, sym, subst}
 use Rattle.room_rule.specs.Steps.{CanStep}
 use Rattle.bay_core.specs.declared.calls.Layout.{Layout}
 use Rattle.bay_rule.specs.declared.bay_use.BayUse.{BayUse}

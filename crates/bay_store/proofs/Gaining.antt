@@ -1,5 +1,5 @@
 -- The entries that a handful adds to its caller's own.
-use Rattle.std.proofs.Common.{◌≡◌, ◌∙◌, ℕ, ◌+◌, ◌<◌, ◌≤◌, true, false, List, [], ◌∷◌, ◌++◌, length, map, take, drop, refl, sym, ap, subst, inl, inr, arith}
+use Rattle.std.proofs.Common.{◌≡◌, ◌∙◌, ℕ, ◌+◌, true, false, List, [], ◌∷◌, ◌++◌, length, map, take, drop, refl, sym, ap, subst, inl, inr, arith}
 use Rattle.std.proofs.lemmas.List.{append_assoc, append-nil, map-append, take-append-drop, take-take, drop-take, drop-drop}
 use Rattle.room_gate.specs.Shows.{Caller}
 use Rattle.bay_core.specs.declared.calls.Op.TheVariants.{Push}
@@ -8,7 +8,7 @@ use Rattle.bay_core.specs.declared.calls.Reply.TheVariants as replies
 use Rattle.bay_core.specs.declared.calls.Entry.{Entry}
 use Rattle.bay_core.specs.declared.calls.Noted.{Noted}
 use Rattle.bay_core.specs.Noted.{after, entry_in}
-use Rattle.bay_core.specs.History.{own, GoesOn}
+use Rattle.bay_core.specs.History.{own}
 use Rattle.bay_core.specs.Told.{Gained}
 use Rattle.bay_core.proofs.OwnCalls.{own_same}
 use Rattle.bay_core.proofs.Telling.{gained_none, gained_call, gained_more, gained_seeing}

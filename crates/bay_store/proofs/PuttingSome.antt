@@ -1,5 +1,5 @@
 -- Handfuls of one call, one after another.
-use Rattle.std.proofs.Common.{◌≡◌, ◌≢◌, ◌∙◌, ℕ, ◌+◌, ◌-◌, ◌<◌, ◌≤◌, List, length, take, drop, refl, sym, ap, subst, arith}
+use Rattle.std.proofs.Common.{◌≡◌, ◌≢◌, ℕ, ◌+◌, ◌-◌, ◌<◌, ◌≤◌, List, length, take, drop, refl, sym, ap, subst, arith}
 use Rattle.std.proofs.lemmas.List.{take_all, length-drop}
 use Rattle.room_gate.specs.Shows.{Caller}
 use Rattle.bay_core.specs.declared.calls.Layout.{Layout}
@@ -11,7 +11,7 @@ use Rattle.bay_rule.specs.Words.{spare_at}
 use Rattle.bay_store.specs.Sharing.{calling}
 use Rattle.bay_store.specs.Acting.{Spills}
 use Rattle.bay_store.specs.Calls.{MayRepeat}
-use Rattle.bay_store.specs.Handfuls.{draws_of, overflows_of, Puts, PutsOnce, HasSpilled, PutsSome}
+use Rattle.bay_store.specs.Handfuls.{overflows_of, Puts, PutsOnce, HasSpilled, PutsSome}
 use Rattle.bay_store.specs.Handfuls.HasSpilled.{none, more}
 use Rattle.bay_store.specs.declared.receipts.Stop.{Stop}
 use Rattle.bay_store.specs.declared.receipts.Stop.TheVariants.{All, Full, Overflow, Spent}
