@@ -4,14 +4,15 @@ use Rattle.std.specs.Prelude.{Contains}
 use mathlib.Core.Option.{some-injective, some-ne-none}
 use Rattle.std.proofs.lemmas.Bool.{cases_eq, cases_lt}
 use Rattle.atomic_table.specs.Table.{Final, Seen}
-use Rattle.mark_words.specs.Bits.{bit_of, times}
+use Rattle.bit_sets.specs.Bits.{bit_of}
+use Rattle.mark_words.specs.Bits.{times}
 use Rattle.mark_words.specs.Rule.{IsAt, Ruled}
 use Rattle.mark_words.specs.Shows.{Claimant}
 use Rattle.mark_words.specs.Closing.{joined, all_won, all_found, IsTold}
 use Rattle.mark_words.specs.Ending.{Reads, HasAll, Ends}
 use Rattle.mark_words.specs.declared.rule.Plan.{Plan}
 use Rattle.mark_words.specs.declared.views.Known.{Known}
-use Rattle.mark_words.proofs.Bits.{bit_small}
+use Rattle.bit_sets.proofs.Bits.{bit_small}
 use Rattle.mark_words.proofs.Totals.{alone}
 
 -- a bit that stands in a list does so some number of times, and the other way round

@@ -1,4 +1,3 @@
-pub mod Bits
 pub mod Totals
 pub mod Steps
 pub mod Closing

@@ -7,13 +7,14 @@ use Rattle.std.proofs.lemmas.Bool.{cases_eq}
 use Rattle.std.proofs.lemmas.List.{length-replicate}
 use Rattle.atomic_table.specs.Table.{State, Me, step, keeps, opening, Allows, Splits, Joins, Enters}
 use Rattle.atomic_table.proofs.Lists.{at_set, at_snoc}
-use Rattle.mark_words.specs.Bits.{bit_of, times}
+use Rattle.bit_sets.specs.Bits.{bit_of}
+use Rattle.mark_words.specs.Bits.{times}
 use Rattle.mark_words.specs.Rule.{IsAt, Ruled}
 use Rattle.mark_words.specs.Told.{Claimed}
 use Rattle.mark_words.specs.View.{maker, after_hire, hired, nobody, taken_in, claims}
 use Rattle.mark_words.specs.declared.rule.Plan.{Plan}
 use Rattle.mark_words.specs.declared.views.Known.{Known}
-use Rattle.mark_words.proofs.Bits.{with_bit, bit_same, bit_other, bit_stays, no_bit, same_bit}
+use Rattle.bit_sets.proofs.Bits.{with_bit, bit_same, bit_other, bit_stays, no_bit, same_bit}
 use Rattle.mark_words.proofs.Totals.{times_same, times_other, times_append, total_set, total_append, part_le}
 
 -- one view alone
@@ -186,7 +187,7 @@ module _ {S : Type 0} (k : Plan) where
       let new = claims b word (suc d) v in
       let wide : b / 64 < length s.words = (let w = r.wide in omega arith) in
       let one : bit_of s.words b ≡ 1 =
-      (let small = Rattle.mark_words.proofs.Bits.bit_small s.words b in omega arith) in
+      (let small = Rattle.bit_sets.proofs.Bits.bit_small s.words b in omega arith) in
       let still : (c : ℕ) → bit_of (with_bit s.words b) c ≡ bit_of s.words c = λ c.
       elim (cases_eq c b) [
         | inl same ↦ ap (bit_of (with_bit s.words b)) same ∙ bit_same s.words b wide ∙ sym one

@@ -1,10 +1,5 @@
--- Bits of words, and how often a bit stands in a list.
-use Rattle.std.specs.Prelude.{ℕ, ◌+◌, ◌/◌, ◌%◌, List, [], ◌∷◌, eqb, cond, slice_index}
-use Rattle.std.specs.Int.{bit_at}
-
--- the value of bit b, 0 or 1: it is bit b mod 64 of word b div 64
-abbrev pub bit_of : List ℕ → ℕ → ℕ
-bit_of words b = bit_at (slice_index words (b / 64)) (b % 64)
+-- How often a bit stands in a list, and sums over lists.
+use Rattle.std.specs.Prelude.{ℕ, ◌+◌, List, [], ◌∷◌, eqb, cond}
 
 -- how often the bit stands in the list
 abbrev pub times : ℕ → List ℕ → ℕ

@@ -1,6 +1,7 @@
 -- What the parts of a close give, and what they leave.
 use Rattle.std.specs.Prelude.{◌≡◌, ℕ, ◌<◌, Bool, true, false, cond, eqb, List, length, slice_index_or}
-use Rattle.mark_words.specs.Bits.{bit_of, times}
+use Rattle.bit_sets.specs.Bits.{bit_of}
+use Rattle.mark_words.specs.Bits.{times}
 use Rattle.mark_words.specs.Closing.{all_won, all_found}
 use Rattle.mark_words.specs.Shows.{Claimant}
 use Rattle.mark_words.specs.declared.views.Known.{Known}

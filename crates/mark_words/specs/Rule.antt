@@ -3,7 +3,8 @@ use Rattle.std.specs.Prelude.{◌≡◌, ℕ, ◌/◌, ◌<◌, ◌≤◌, List,
 use mathlib.Core.Option.{some}
 use lib.ListN.{get_elem?}
 use Rattle.atomic_table.specs.Table.{State}
-use Rattle.mark_words.specs.Bits.{bit_of, times, total}
+use Rattle.bit_sets.specs.Bits.{bit_of}
+use Rattle.mark_words.specs.Bits.{times, total}
 use Rattle.mark_words.specs.declared.rule.Plan.{Plan}
 use Rattle.mark_words.specs.declared.views.Known.{Known}
 

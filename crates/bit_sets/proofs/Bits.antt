@@ -6,7 +6,7 @@ use Rattle.std.proofs.lemmas.Bool.{cases_eq, cases_lt}
 use Rattle.std.proofs.lemmas.List.{get_or-set_same, get_or-set_other}
 use Rattle.std.proofs.lemmas.Nat.{pow_below}
 use Rattle.std.proofs.lemmas.Nat.Bits.{bit_at_or, bit_at-lt, bit_at-pow_same, bit_at-pow_other, bit_at-zero}
-use Rattle.mark_words.specs.Bits.{bit_of}
+use Rattle.bit_sets.specs.Bits.{bit_of}
 
 -- the words with the bit set
 abbrev pub with_bit : List ℕ → ℕ → List ℕ

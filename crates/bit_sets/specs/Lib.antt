@@ -1,0 +1,5 @@
+pub mod Bits
+pub mod Rank
+pub mod Next
+pub mod SetModel
+pub mod RankedModel
