@@ -1,15 +1,16 @@
 //! Marking on one thread.
-ghost use Rattle.std.specs.Prelude.{◌≡◌, ◌+◌, ◌<◌, ◌≤◌, ◌^◌, ◌∷◌, [], length, map, slice_index_or, false, All, OnOk, IfOk};
+ghost use Rattle.std.specs.Prelude.{◌≡◌, ◌+◌, ◌<◌, ◌≤◌, ◌^◌, ◌∷◌, [], length, map, slice_index_or, vec_capacity, false, All, OnOk, IfOk};
 ghost use Rattle.image_core.specs.Live.{MarksLive};
 ghost use Rattle.image_mark.specs.Waiting.{MarksNamed};
 
+use bit_sets::BitSet;
 use image_core::{Image, references};
 use std::alloc::{AllocError, Global};
 
 /// Which objects are live: for each, in the order of their numbers, whether a path of references
 /// leads to it from a root. A weak word leads nowhere.
 ///
-/// It waits for nobody, and takes memory: a mark for each word, and places for the objects that wait to
+/// It waits for nobody, and takes memory: a bit for each word, and places for the objects that wait to
 /// be gone through, of which there are never more than objects.
 ///
 /// # Errors
@@ -19,26 +20,26 @@ pub fn mark_one(alloc: Global, image: &Image) -> Result<Vec<bool>, AllocError>
     ensures { IfOk result (λ live. MarksLive image.now live.items) }
 {
     let words = image.words();
-    let mut marks = vec![in alloc; false; words.len()]?;
+    let mut marks = BitSet::none(alloc, words.len())?;
     let mut waiting = Vec::new(alloc);
     mark_named(image.roots(), &mut marks, &mut waiting)?;
     while let Some(place) = waiting.pop() {
         let named = references(words, place as usize);
         mark_named(named, &mut marks, &mut waiting)?;
     }
-    let live = marks_at(alloc, marks.as_slice(), image.heads())?;
+    let live = marks_at(alloc, &marks, image.heads())?;
     Ok(live)
 }
 
 /// Marks the places that words name; each that was not marked waits from now on.
 fn mark_named(
     words: &[u64],
-    marks: &mut Vec<bool>,
+    marks: &mut BitSet,
     waiting: &mut Vec<u32>,
 ) -> Result<(), AllocError>
-    requires few { length marks.old.items ≤ 2 ^ 22 }
-    requires within { All (λ word. word ≤ length marks.old.items) words.now }
-    ensures { OnOk result (MarksNamed words.now marks.old.items marks.new.items waiting.old.items waiting.new.items) }
+    requires few { length marks.old ≤ 2 ^ 22 }
+    requires within { All (λ word. word ≤ length marks.old) words.now }
+    ensures { OnOk result (MarksNamed words.now marks.old marks.new waiting.old.items waiting.new.items) }
 {
     for word in words {
         if *word != 0 {
@@ -49,25 +50,25 @@ fn mark_named(
 }
 
 /// Marks a place, which waits from now on if it was not marked.
-fn mark(place: u64, marks: &mut Vec<bool>, waiting: &mut Vec<u32>) -> Result<(), AllocError>
-    requires few { length marks.old.items ≤ 2 ^ 22 }
-    requires within { place < length marks.old.items }
-    ensures { OnOk result (MarksNamed ((1 + place) ∷ []) marks.old.items marks.new.items waiting.old.items waiting.new.items) }
+fn mark(place: u64, marks: &mut BitSet, waiting: &mut Vec<u32>) -> Result<(), AllocError>
+    requires few { length marks.old ≤ 2 ^ 22 }
+    requires within { place < length marks.old }
+    ensures { OnOk result (MarksNamed ((1 + place) ∷ []) marks.old marks.new waiting.old.items waiting.new.items) }
 {
-    if !marks[place as usize] {
-        marks[place as usize] = true;
+    if marks.insert(place as usize) {
         waiting.push(place as u32)?;
     }
     Ok(())
 }
 
 /// The marks at these places.
-fn marks_at(alloc: Global, marks: &[bool], places: &[u32]) -> Result<Vec<bool>, AllocError>
+fn marks_at(alloc: Global, marks: &BitSet, places: &[u32]) -> Result<Vec<bool>, AllocError>
     requires { All (λ place. place < length marks.now) places.now }
     ensures { IfOk result (λ found. found.items ≡ map (λ place. slice_index_or marks.now place false) places.now) }
 {
-    places
-        .iter()
-        .map(|place| marks[*place as usize])
-        .collect(alloc)
+    let mut found = Vec::with_capacity(alloc, places.len())?;
+    for place in places {
+        found.push_reserved(marks.contains(*place as usize));
+    }
+    Ok(found)
 }
