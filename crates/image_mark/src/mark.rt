@@ -1,10 +1,13 @@
 //! Marking on one thread.
-ghost use Rattle.std.specs.Prelude.{◌≡◌, ◌+◌, ◌<◌, ◌≤◌, ◌^◌, ◌∷◌, [], length, map, slice_index_or, vec_capacity, false, All, OnOk, IfOk};
+ghost use Rattle.std.specs.Prelude.{◌≡◌, ◌+◌, ◌<◌, ◌≤◌, ◌^◌, ◌∷◌, [], length, map, slice_index, slice_index_or, false, All, OnOk, IfOk};
 ghost use Rattle.image_core.specs.Live.{MarksLive};
+ghost use Rattle.image_core.specs.Object.{refs_at, references_at};
 ghost use Rattle.image_mark.specs.Waiting.{MarksNamed};
+ghost use Rattle.image_mark.specs.Ahead.{Fills};
 
+use crate::ring::{Next, Ring};
 use bit_sets::BitSet;
-use image_core::{Image, references};
+use image_core::{Image, refs};
 use std::alloc::{AllocError, Global};
 
 /// Which objects are live: for each, in the order of their numbers, whether a path of references
@@ -22,10 +25,13 @@ pub fn mark_one(alloc: Global, image: &Image) -> Result<Vec<bool>, AllocError>
     let words = image.words();
     let mut marks = BitSet::none(alloc, words.len())?;
     let mut waiting = Vec::new(alloc);
+    let mut ring = Ring::new();
     mark_named(image.roots(), &mut marks, &mut waiting)?;
-    while let Some(place) = waiting.pop() {
-        let named = references(words, place as usize);
+    look_ahead(words, &mut ring, &mut waiting);
+    while let Some(next) = ring.take() {
+        let named = references_by(words, &next);
         mark_named(named, &mut marks, &mut waiting)?;
+        look_ahead(words, &mut ring, &mut waiting);
     }
     let live = marks_at(alloc, &marks, image.heads())?;
     Ok(live)
@@ -59,6 +65,30 @@ fn mark(place: u64, marks: &mut BitSet, waiting: &mut Vec<u32>) -> Result<(), Al
         waiting.push(place as u32)?;
     }
     Ok(())
+}
+
+/// Takes places from the stack into the ring, each with its header, while there are any and there is
+/// room.
+fn look_ahead(words: &[u64], ring: &mut Ring, waiting: &mut Vec<u32>)
+    requires { All (λ place. place < length words.now) waiting.old.items }
+    ensures { Fills words.now ring.old ring.new waiting.old.items waiting.new.items }
+{
+    while !ring.is_full() {
+        let Some(place) = waiting.pop() else { return };
+        let header = words[place as usize];
+        ring.put(Next { place, header });
+    }
+}
+
+/// The references of an object, by its header.
+#[inline]
+fn references_by<'a>(words: &'a [u64], next: &Next) -> &'a [u64]
+    requires header { next.now.header ≡ slice_index words.now next.now.place }
+    requires fits { next.now.place + refs_at words.now next.now.place < length words.now }
+    ensures { result.now ≡ references_at words.now next.now.place }
+{
+    let from = next.place as usize + 1;
+    &words[from..from + refs(next.header) as usize]
 }
 
 /// The marks at these places.
