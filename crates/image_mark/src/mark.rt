@@ -38,11 +38,7 @@ pub fn mark_one(alloc: Global, image: &Image) -> Result<Vec<bool>, AllocError>
 }
 
 /// Marks the places that words name; each that was not marked waits from now on.
-fn mark_named(
-    words: &[u64],
-    marks: &mut BitSet,
-    waiting: &mut Vec<u32>,
-) -> Result<(), AllocError>
+fn mark_named(words: &[u64], marks: &mut BitSet, waiting: &mut Vec<u32>) -> Result<(), AllocError>
     requires few { length marks.old ≤ 2 ^ 22 }
     requires within { All (λ word. word ≤ length marks.old) words.now }
     ensures { OnOk result (MarksNamed words.now marks.old marks.new waiting.old.items waiting.new.items) }
