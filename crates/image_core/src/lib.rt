@@ -10,7 +10,7 @@ mod object;
 mod walk;
 
 pub use fault::{ImageFault, ImageKind, ReadImage};
-pub use header::size;
+pub use header::{refs, size};
 pub use image::Image;
 pub use object::{Obj, data, references, weak_references};
 

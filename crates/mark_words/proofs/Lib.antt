@@ -2,3 +2,4 @@ pub mod Totals
 pub mod Steps
 pub mod Closing
 pub mod Making
+pub mod Looking

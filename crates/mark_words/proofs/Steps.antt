@@ -1,17 +1,17 @@
 -- Each step on the table keeps its rule.
-use Rattle.std.proofs.Common.{◌≡◌, ◌≢◌, ℕ, zero, suc, ◌+◌, ◌/◌, ◌%◌, ◌^◌, ◌<◌, ⊎_elim, inl, inr, List, [], ◌∷◌, ◌++◌, get_or, set, replicate, length, length-set, refl, ap, sym, ◌∙◌, subst, arith}
+use Rattle.std.proofs.Common.{◌≡◌, ◌≢◌, ℕ, zero, suc, ◌+◌, ◌*◌, ◌/◌, ◌%◌, ◌^◌, ◌<◌, ⊎_elim, inl, inr, List, [], ◌∷◌, ◌++◌, get_or, set, replicate, length, length-set, refl, ap, sym, ◌∙◌, subst, arith}
 use Rattle.std.specs.Prelude.{bit_or}
 use Rattle.std.specs.Int.{bit_at}
 use mathlib.Core.Option.{none}
 use Rattle.std.proofs.lemmas.Bool.{cases_eq}
-use Rattle.std.proofs.lemmas.List.{length-replicate}
+use Rattle.std.proofs.lemmas.List.{length-replicate, set-get_or}
 use Rattle.atomic_table.specs.Table.{State, Me, step, keeps, opening, Allows, Splits, Joins, Enters}
 use Rattle.atomic_table.proofs.Lists.{at_set, at_snoc}
 use Rattle.bit_sets.specs.Bits.{bit_of}
 use Rattle.mark_words.specs.Bits.{times}
 use Rattle.mark_words.specs.Rule.{IsAt, Ruled}
-use Rattle.mark_words.specs.Told.{Claimed}
-use Rattle.mark_words.specs.View.{maker, after_hire, hired, nobody, taken_in, claims}
+use Rattle.mark_words.specs.Told.{Claimed, Looked, Named}
+use Rattle.mark_words.specs.View.{maker, after_hire, hired, nobody, taken_in, aims, claims, looks}
 use Rattle.mark_words.specs.declared.rule.Plan.{Plan}
 use Rattle.mark_words.specs.declared.views.Known.{Known}
 use Rattle.bit_sets.proofs.Bits.{with_bit, bit_same, bit_other, bit_stays, no_bit, same_bit}
@@ -31,14 +31,14 @@ parts_of v = v.parts
 
 module _ {S : Type 0} (k : Plan) where
   -- the rule holds at the start
-  pub opens : Ruled {S = S} k (opening (replicate (k.bits / 64 + 1) 0) [] (maker k))
+  pub opens : Ruled {S = S} k (opening (replicate (k.bits / 64 / 64 * 64 + 128) 0) [] (maker k))
   opens = record {
-    won = λ b. sym (no_bit (k.bits / 64 + 1) b);
+    won = λ b. sym (no_bit (k.bits / 64 / 64 * 64 + 128) b);
     found = λ id v b at some_found. absurd (
         let e : 0 ≡ times b v.found = ap (λ z. times b z.found) (only (maker k) v id at) in omega arith);
-    clear = λ b past. no_bit (k.bits / 64 + 1) b;
-    wide = (let e : length (replicate {A = ℕ} (k.bits / 64 + 1) 0) ≡ k.bits / 64 + 1 =
-        length-replicate {A = ℕ} (k.bits / 64 + 1) 0 in omega arith);
+    clear = λ b past. no_bit (k.bits / 64 / 64 * 64 + 128) b;
+    wide = (let e : length (replicate {A = ℕ} (k.bits / 64 / 64 * 64 + 128) 0) ≡ k.bits / 64 / 64 * 64 + 128 =
+        length-replicate {A = ℕ} (k.bits / 64 / 64 * 64 + 128) 0 in omega arith);
     parts = omega arith;
     idle = λ id v at e. ap (λ z. z.won) (sym (only (maker k) v id at));
   }
@@ -253,6 +253,76 @@ module _ {S : Type 0} (k : Plan) where
                   | inr there ↦ absurd (let one = r.found id me.0 c at (omega (arith, there)) in omega (arith, one, none))
                 ],
               );
+          slots = refl;
+        },
+      )
+
+  -- the words stay, and one view changes that won what it had won
+  same_words : (s : State S Known) (id : ℕ) (v new : Known) → Ruled k s → IsAt s.views id v → new.won ≡ v.won → new.parts ≡ v.parts
+      → ((c : ℕ) → 0 < times c new.found → bit_of s.words c ≡ 1)
+      → Ruled k (record { words = s.words; homes = s.homes; views = set s.views id new })
+  same_words s id v new r at won_is parts_are set_there = record {
+    won = λ c. (let p = total_set (λ z. times c z.won) s.views id v new at in
+        let q : times c new.won ≡ times c v.won = ap (times c) won_is in
+        let e = r.won c in omega arith);
+    found = λ j x c there some_found. ⊎_elim
+        (λ (t : (j ≡ id) × (new ≡ x)). set_there c
+        (let e : times c new.found ≡ times c x.found = ap (λ z. times c z.found) t.1 in omega arith))
+        (λ (t : (j ≢ id) × IsAt s.views j x). r.found j x c t.1 some_found)
+        (at_set s.views id j new x there);
+    clear = r.clear;
+    wide = r.wide;
+    parts = (let p = total_set (λ z. z.parts) s.views id v new at in
+        let e = r.parts in omega arith);
+    idle = λ j x there e. ⊎_elim
+        (λ (t : (j ≡ id) × (new ≡ x)). ap (λ z. z.won) (sym t.1) ∙ won_is ∙ r.idle id v at
+        (let f : new.parts ≡ x.parts = ap (λ z. z.parts) t.1 in omega arith))
+        (λ (t : (j ≢ id) × IsAt s.views j x). r.idle j x t.1 e)
+        (at_set s.views id j new x there);
+  }
+
+  -- a load leaves the words
+  loaded_rule : (s : State S Known) (id word : ℕ) (new : Known) → Ruled k (record { words = s.words; homes = s.homes; views = set s.views id new })
+      → Ruled k (record { words = set s.words word (get_or s.words word 0); homes = s.homes; views = set s.views id new })
+  loaded_rule s id word new r =
+      subst (λ (l : List ℕ). Ruled k (record { words = l; homes = s.homes; views = set s.views id new })) (sym (set-get_or s.words word 0)) r
+
+  -- a seat may be told a place
+  pub names_place : (slots id : ℕ) (me : Me S Known) (word : ℕ) → Allows (Ruled k) slots id me word (λ n. n) (Named (step slots word 0 0 none) me)
+  names_place slots id me word s r sized at small = (
+    aims word me.0,
+    keeps,
+    tt,
+    loaded_rule s id word (aims word me.0) (same_words s id me.0 (aims word me.0) r at refl refl (λ c some. r.found id me.0 c at some)),
+    record { view = refl; slots = refl },
+  )
+
+  looked_rule : (s : State S Known) (id : ℕ) (v : Known) (b word : ℕ) → Ruled k s → IsAt s.views id v → (d : ℕ) → bit_of s.words b ≡ d
+      → Ruled k (record { words = s.words; homes = s.homes; views = set s.views id (looks b word d v) })
+  looked_rule s id v b word r at zero is = same_words s id v v r at refl refl (λ c some. r.found id v c at some)
+  looked_rule s id v b word r at (suc d) is =
+      let one : bit_of s.words b ≡ 1 =
+      (let small = Rattle.bit_sets.proofs.Bits.bit_small s.words b in omega arith) in
+      same_words s id v (looks b word (suc d) v) r at refl refl (λ c some. elim (cases_eq c b) [
+        | inl same ↦ ap (bit_of s.words) same ∙ one
+        | inr ne ↦ r.found id v c at (let q = times_other b c v.found ne in omega arith)
+      ])
+
+  -- a seat may look at a bit
+  pub looks_at_bit : (slots id : ℕ) (me : Me S Known) (word b : ℕ) → word ≡ b / 64 → me.0.aim % 64 ≡ b % 64
+      → Allows (Ruled k) slots id me word (λ n. n) (Looked (step slots word 0 0 none) me)
+  looks_at_bit slots id me word b is_word is_place s r sized at small =
+      let found : ℕ = get_or s.words word 0 in
+      let d : ℕ = bit_at found (b % 64) in
+      let there : bit_of s.words b ≡ d = ap (λ (i : ℕ). bit_at (get_or s.words i 0) (b % 64)) (sym is_word) in (
+        looks b found d me.0,
+        keeps,
+        tt,
+        loaded_rule s id word (looks b found d me.0) (looked_rule s id me.0 b found r at d there),
+        record {
+          view = λ c its_word its_place.
+              let e : b ≡ c = omega (arith, is_word, its_word, is_place, its_place) in
+              λ i. looks (e i) found (bit_at found (e i % 64)) me.0;
           slots = refl;
         },
       )

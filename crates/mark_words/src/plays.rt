@@ -1,5 +1,5 @@
 //! What each step on the table tells. No value of these types is made.
-ghost use Rattle.mark_words.specs.Told.{Claimed};
+ghost use Rattle.mark_words.specs.Told.{Claimed, Looked, Named};
 ghost use Rattle.mark_words.specs.View.{after_hire, hired, nobody, taken_in};
 ghost use Rattle.std.specs.Prelude.{◌≡◌};
 
@@ -11,6 +11,20 @@ pub(crate) struct Claiming;
 
 impl<S> Play<S, Known> for Claiming {
     ghost then = { Claimed };
+}
+
+/// A load whose word tells which place in a word is looked at next.
+pub(crate) struct Naming;
+
+impl<S> Play<S, Known> for Naming {
+    ghost then = { Named };
+}
+
+/// A look at a bit.
+pub(crate) struct Looking;
+
+impl<S> Play<S, Known> for Looking {
+    ghost then = { Looked };
 }
 
 /// The maker makes one seat.

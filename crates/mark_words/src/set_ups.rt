@@ -46,7 +46,7 @@ impl Claims {
         ensures claims { IfOk result (λ r. (r.0.bits ≡ bits) × (r.0.seats ≡ seats)) }
         ensures seats { IfOk result (λ r. AreSeats r.0.site seats r.1.items) }
     {
-        let words = vec![in alloc; 0u64; bits as usize / 64 + 1]?;
+        let words = vec![in alloc; 0u64; bits as usize / 64 / 64 * 64 + 128]?;
         let plan = Plan { bits, seats };
         let (table, maker) = Table::of_words(alloc, words.as_slice(), &plan)?;
         let claims = Claims { table, plan };

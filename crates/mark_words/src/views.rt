@@ -14,4 +14,6 @@ pub struct Known {
     pub found: LinkedList<u32>,
     /// The word that its last claim found, or 0.
     pub old: u64,
+    /// A number that leaves at the division by 64 the place in its word of the bit that it looks at.
+    pub aim: u32,
 }

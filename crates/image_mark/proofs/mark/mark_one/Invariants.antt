@@ -1,13 +1,10 @@
 use Rattle.image_mark.specs.Waiting.{left}
-use Rattle.image_mark.proofs.Liveness.{Sound, Closed, EachMarked}
+use Rattle.image_mark.specs.Ahead.{all_waiting}
+use Rattle.image_mark.proofs.Ahead.{Going}
 use Rattle.image_mark.proofs.mark.mark_one.Given as goal
 
-abbrev pub invariant-loop-place : goal.invariant-loop-place
-invariant-loop-place l = record {
-  sound : Sound l.image l.marks.items l.waiting.items;
-  closed : Closed l.image l.marks.items l.waiting.items;
-  rooted : EachMarked l.image.roots l.marks.items;
-}
+abbrev pub invariant-loop-next : goal.invariant-loop-next
+invariant-loop-next l = Going l.image l.marks l.waiting.items l.ring
 
-abbrev pub decreases-loop-place : goal.decreases-loop-place
-decreases-loop-place l = left l.marks.items l.waiting.items
+abbrev pub decreases-loop-next : goal.decreases-loop-next
+decreases-loop-next l = left l.marks (all_waiting l.waiting.items l.ring)
