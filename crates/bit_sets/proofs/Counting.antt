@@ -1,5 +1,5 @@
 -- How many of a set stand below a place, by the ones of its words.
-use Rattle.std.proofs.Common.{◌≡◌, ℕ, zero, suc, ◌+◌, ◌-◌, ◌*◌, ◌/◌, ◌%◌, ◌^◌, ◌<◌, ◌≤◌, Bool, false, get_or, List, length, refl, ap, sym, ◌∙◌, arith}
+use Rattle.std.proofs.Common.{◌≡◌, ℕ, zero, suc, ◌+◌, ◌-◌, ◌*◌, ◌/◌, ◌%◌, ◌^◌, ◌<◌, ◌≤◌, Bool, true, false, get_or, List, length, refl, ap, sym, ◌∙◌, arith}
 use Rattle.std.specs.Prelude.{bit_and, nat_eq, count_ones}
 use Rattle.std.specs.Int.{bit_at}
 use Rattle.std.specs.Int.Count.{ones}
@@ -87,3 +87,35 @@ rank_below many place w n mask words xs wide long shows below read is_mask =
     ap (λ (m : ℕ). bit_and w (m - 1)) is_mask ∙ and_mask w k ∙ ap (λ (z : ℕ). z % 2 ^ k) is in
     (λ i. rank (sym shows i) (sym there i)) ∙ part
     ∙ (λ i. rank (shows i) (64 * (place / 64)) + count_ones (sym masked i))
+
+-- none between two places
+zeros_from : (xs : List Bool) (from n : ℕ) → from + n ≤ length xs
+    → ((k : ℕ) → from ≤ k → k < from + n → get_or xs k false ≡ false) → rank xs (from + n) ≡ rank xs from
+zeros_from xs from zero within each = let place : from + 0 ≡ from = omega arith in ap (rank xs) place
+zeros_from xs from (suc n) within each =
+    let step = count_by_more_no (λ b. b) xs (from + n) false (omega arith) (each (from + n) (omega arith) (omega arith)) in
+    let rest = zeros_from xs from n (omega arith) (λ k above below. each k above (omega arith)) in
+    let place : from + n + 1 ≡ from + suc n = omega arith in
+    ap (rank xs) (sym place) ∙ step ∙ rest
+
+pub rank_zeros : (xs : List Bool) (from end : ℕ) → from ≤ end → end ≤ length xs
+    → ((k : ℕ) → from ≤ k → k < end → get_or xs k false ≡ false) → rank xs end ≡ rank xs from
+rank_zeros xs from end order within each =
+    let place : from + (end - from) ≡ end = omega arith in
+    ap (rank xs) (sym place) ∙ zeros_from xs from (end - from) (omega arith) (λ k above below. each k above (omega arith))
+
+-- all between two places
+ones_from : (xs : List Bool) (from n : ℕ) → from + n ≤ length xs
+    → ((k : ℕ) → from ≤ k → k < from + n → get_or xs k false ≡ true) → rank xs (from + n) ≡ rank xs from + n
+ones_from xs from zero within each = let place : from + 0 ≡ from = omega arith in ap (rank xs) place ∙ omega arith
+ones_from xs from (suc n) within each =
+    let step = count_by_more_yes (λ b. b) xs (from + n) false (omega arith) (each (from + n) (omega arith) (omega arith)) in
+    let rest = ones_from xs from n (omega arith) (λ k above below. each k above (omega arith)) in
+    let place : from + n + 1 ≡ from + suc n = omega arith in
+    ap (rank xs) (sym place) ∙ step ∙ omega (arith, rest)
+
+pub rank_ones : (xs : List Bool) (from end : ℕ) → from ≤ end → end ≤ length xs
+    → ((k : ℕ) → from ≤ k → k < end → get_or xs k false ≡ true) → rank xs end ≡ rank xs from + (end - from)
+rank_ones xs from end order within each =
+    let place : from + (end - from) ≡ end = omega arith in
+    ap (rank xs) (sym place) ∙ ones_from xs from (end - from) (omega arith) (λ k above below. each k above (omega arith))

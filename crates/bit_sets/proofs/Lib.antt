@@ -2,3 +2,4 @@ pub mod Bits
 pub mod Showing
 pub mod Counting
 pub mod Seeking
+pub mod Runs

@@ -2,6 +2,7 @@
 ghost use Rattle.std.specs.Prelude.{◌≡◌, ◌+◌, ◌*◌, ◌/◌, ◌<◌, ◌≤◌, ℕ, true, false, not, length, replicate, slice_index_or, slice_set, IfOk, IfSome, IfNone};
 ghost use Rattle.bit_sets.specs.Rank.{rank};
 ghost use Rattle.bit_sets.specs.Next.{IsNext};
+ghost use Rattle.bit_sets.specs.Run.{with_run};
 
 use std::alloc::{AllocError, Global};
 use std::marker::Model;
@@ -68,6 +69,35 @@ impl BitSet {
         let was = self.words[place / 64];
         self.words[place / 64] = was | (1u64 << (place % 64));
         (was >> (place % 64)) & 1 == 0
+    }
+
+    /// Puts the numbers from `from` up to, and not with, `end` into the set: as many as a word has at
+    /// once. The set is else as it was.
+    #[inline]
+    pub fn insert_run(&mut self, from: usize, end: usize)
+        requires order { from ≤ end }
+        requires within { end ≤ length self.old }
+        ensures { self.new ≡ with_run self.old from end }
+    {
+        let mut at = from;
+        while at < end {
+            let next = at + (64 - at % 64).min(end - at);
+            self.insert_in_word(at, next);
+            at = next;
+        }
+    }
+
+    // Puts the numbers from `from` up to `end`, all of one word, into the set.
+    #[inline]
+    fn insert_in_word(&mut self, from: usize, end: usize)
+        requires some { from < end }
+        requires one { end ≤ 64 * (from / 64) + 64 }
+        requires within { end ≤ length self.old }
+        ensures { self.new ≡ with_run self.old from end }
+    {
+        let ones = u64::MAX >> (64 - (end - from));
+        let was = self.words[from / 64];
+        self.words[from / 64] = was | (ones << (from % 64));
     }
 
     /// The least number of the set that is not below the place, and none where there is none; the

@@ -52,6 +52,20 @@ fn a_set_has_its_numbers(rt: HostRuntime) -> Result<(), AllocError> {
 }
 
 #[test]
+fn a_run_is_put_in_at_once(rt: HostRuntime) -> Result<(), AllocError> {
+    for (from, end) in [(0, 0), (0, 64), (63, 65), (1, 130), (64, 129), (130, 130)] {
+        let mut set = BitSet::none(rt.alloc(), 130)?;
+        if from <= end && end <= set.len() {
+            set.insert_run(from, end);
+        }
+        for place in 0..set.len() {
+            assert_eq!(rt; set.contains(place), from <= place && place < end);
+        }
+    }
+    Ok(())
+}
+
+#[test]
 fn ranks_count_the_numbers_below(rt: HostRuntime) -> Result<(), AllocError> {
     for (len, numbers) in ROWS {
         let mut set = BitSet::none(rt.alloc(), len)?;

@@ -1,7 +1,13 @@
--- An index from places to objects: 1 + the number of the object whose header stands there, or 0.
-use Rattle.std.specs.Prelude.{◌≡◌, ℕ, ◌+◌, ◌<◌, ◌↔◌, List, length, slice_index}
+-- An index from places to objects, by bits: which words are headers, and how many stand below each.
+use Rattle.std.specs.Prelude.{◌≡◌, ℕ, ◌<◌, ◌↔◌, List, length, slice_index, slice_index_or, Contains, Bool, true, false}
+use Rattle.bit_sets.specs.Rank.{rank}
 
--- the entry of a place is 1 + an object's number exactly where the header of that object stands there
-pub record IsIndex (heads numbers : List ℕ) : Type 0 where
+-- a place has its bit exactly where a header stands there
+abbrev pub AreHeads : List ℕ → List Bool → Type 0
+AreHeads heads bits = (place : ℕ) → (slice_index_or bits place false ≡ true) ↔ Contains heads place
+
+-- a place has its bit, and as many others stand below it as an object has before it, exactly where the header of that object stands there
+pub record IsIndex (heads : List ℕ) (bits : List Bool) : Type 0 where
   pub entry : (place object : ℕ)
-      → (slice_index numbers place ≡ object + 1) ↔ ((object < length heads) × (slice_index heads object ≡ place))
+      → ((slice_index_or bits place false ≡ true) × (rank bits place ≡ object))
+      ↔ ((object < length heads) × (slice_index heads object ≡ place))

@@ -27,12 +27,12 @@ pub fn headers(
         (λ heads. IsLawful (record { format = format; words = words.now; roots = roots.now; heads = heads })) }
     ensures fault { IfErr result (λ refusal. OnFault refusal (HasFault format words.now roots.now)) }
 {
-    let heads = walk(alloc, format, words)?;
-    if heads.len() > MOST_OBJECTS {
-        let place = heads[MOST_OBJECTS] as usize;
+    let found = walk(alloc, format, words)?;
+    if found.heads.len() > MOST_OBJECTS {
+        let place = found.heads[MOST_OBJECTS] as usize;
         return Err(ReadImage::Fault(ImageFault::of_word(ImageKind::TooManyObjects, words, place)));
     }
-    let index = HeaderIndex::new(alloc, words, heads)?;
+    let index = HeaderIndex::new(alloc, words, found.heads, found.bits)?;
     if let Some(place) = first_bad_reference(format, words, &index) {
         return Err(ReadImage::Fault(ImageFault::of_word(ImageKind::BadRef, words, place)));
     }

@@ -33,7 +33,6 @@ impl Image {
     ghost use Rattle.image_core.specs.Heap.{Heap, IsLawful, IsHeapOf, head_of};
     ghost use Rattle.image_core.specs.Fault.{HasFault, OnFault, Tells};
     ghost use Rattle.image_core.specs.Shape.{object_at, Target};
-    ghost use Rattle.image_core.specs.Index.{IsIndex};
     ghost use Rattle.image_core.specs.declared.fault.ImageFault.{ImageFault};
     ghost use Rattle.image_core.specs.declared.fault.ReadImage.TheVariants.{Memory};
 
@@ -78,34 +77,13 @@ impl Image {
         ensures { IfOk result (λ image. image
             ≡ record { format = format; words = words.items; roots = roots.items; heads = heads.items }) }
     {
-        let index = HeaderIndex::new(alloc, words.as_slice(), heads)?;
+        let index = HeaderIndex::of_heads(alloc, words.as_slice(), heads)?;
         Ok(Image {
             format,
             words,
             roots,
             index,
         })
-    }
-
-    /// The image of a heap that is known to be lawful, with its index: by word, 1 + the number of the
-    /// object whose header stands there, or 0. It makes no test and takes no memory.
-    pub fn from_indexed(
-        format: u8,
-        words: Vec<u64>,
-        roots: Vec<u64>,
-        heads: Vec<u32>,
-        numbers: Vec<u32>,
-    ) -> Image
-        requires lawful { IsLawful (record { format = format; words = words.items; roots = roots.items; heads = heads.items }) }
-        requires index { IsIndex heads.items numbers.items }
-        ensures { result ≡ record { format = format; words = words.items; roots = roots.items; heads = heads.items } }
-    {
-        Image {
-            format,
-            words,
-            roots,
-            index: HeaderIndex::from_numbers(heads, numbers),
-        }
     }
 
     /// The format: 1 or 2.

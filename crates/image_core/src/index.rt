@@ -1,17 +1,19 @@
 //! Where the headers stand, and whose header a word is.
-ghost use Rattle.std.specs.Prelude.{ℕ, ◌≡◌, ◌<◌, ◌≤◌, ◌^◌, ◌↔◌, length, slice_index, IsTrue, IfOk};
+ghost use Rattle.std.specs.Prelude.{ℕ, ◌≡◌, ◌<◌, ◌≤◌, ◌^◌, ◌↔◌, false, length, slice_index_or, IsTrue, IfOk};
 ghost use Rattle.image_core.specs.Heap.{Fill, Names};
-ghost use Rattle.image_core.specs.Index.{IsIndex};
+ghost use Rattle.image_core.specs.Index.{AreHeads};
 ghost use Rattle.image_core.specs.Shape.{Target};
 
+use bit_sets::{BitSet, RankedBits};
 use std::alloc::{AllocError, Global};
 use std::marker::Model;
 
-/// The places of the headers, in order, and for each word which object's header it is.
+/// The places of the headers, in order, and for each word whether it is one, and how many stand
+/// before it.
 #[derive(Drop)]
 pub struct HeaderIndex {
     heads: Vec<u32>,
-    numbers: Vec<u32>,
+    bits: RankedBits,
 }
 
 // Contracts see the places of the headers.
@@ -23,26 +25,39 @@ impl Model for HeaderIndex {
 
     ghost view = { λ i. i.heads.items };
 
-    ghost invariant = { λ i. IsIndex i.heads.items i.numbers.items };
+    ghost invariant = { λ i. IsIndex i.heads.items i.bits };
 }
 
 impl HeaderIndex {
+    /// The index of headers that stand among the words, of whatever format. These are their bits.
+    pub fn new(
+        alloc: Global,
+        words: &[u64],
+        heads: Vec<u32>,
+        bits: BitSet,
+    ) -> Result<HeaderIndex, AllocError>
+        requires few { length words.now ≤ 2 ^ 22 }
+        requires fill { (format : ℕ) × Fill format words.now heads.items }
+        requires long { length bits ≡ length words.now }
+        requires bits { AreHeads heads.items bits }
+        ensures { IfOk result (λ index. index ≡ heads.items) }
+    {
+        let bits = RankedBits::from_bits(alloc, bits)?;
+        Ok(HeaderIndex { heads, bits })
+    }
+
     /// The index of headers that stand among the words, of whatever format.
-    pub fn new(alloc: Global, words: &[u64], heads: Vec<u32>) -> Result<HeaderIndex, AllocError>
+    pub fn of_heads(
+        alloc: Global,
+        words: &[u64],
+        heads: Vec<u32>,
+    ) -> Result<HeaderIndex, AllocError>
         requires few { length words.now ≤ 2 ^ 22 }
         requires fill { (format : ℕ) × Fill format words.now heads.items }
         ensures { IfOk result (λ index. index ≡ heads.items) }
     {
-        let numbers = numbered(alloc, words, heads.as_slice())?;
-        Ok(HeaderIndex { heads, numbers })
-    }
-
-    /// The index of headers whose entries by word are known. It takes no memory.
-    pub fn from_numbers(heads: Vec<u32>, numbers: Vec<u32>) -> HeaderIndex
-        requires { IsIndex heads.items numbers.items }
-        ensures { result ≡ heads.items }
-    {
-        HeaderIndex { heads, numbers }
+        let bits = bits_at(alloc, words, heads.as_slice())?;
+        HeaderIndex::new(alloc, words, heads, bits)
     }
 
     /// The places of the headers.
@@ -59,7 +74,7 @@ impl HeaderIndex {
     pub fn is_name(&self, word: u64) -> bool
         ensures { IsTrue result ↔ Names self.now word }
     {
-        word == 0 || has_number(self.numbers.as_slice(), word - 1)
+        word == 0 || has_place(&self.bits, word - 1)
     }
 
     /// Which object a word names: none where it is 0.
@@ -72,30 +87,28 @@ impl HeaderIndex {
         if word == 0 {
             None
         } else {
-            Some(self.numbers[(word - 1) as usize] - 1)
+            Some(self.bits.rank((word - 1) as usize))
         }
     }
 }
 
-/// For each word 1 + the number of the object whose header it is, or 0.
-fn numbered(alloc: Global, words: &[u64], heads: &[u32]) -> Result<Vec<u32>, AllocError>
-    requires few { length words.now ≤ 2 ^ 22 }
-    requires fill { (format : ℕ) × Fill format words.now heads.now }
-    ensures { IfOk result (λ numbers. IsIndex heads.now numbers.items) }
+/// The bits of the words at these places.
+fn bits_at(alloc: Global, words: &[u64], heads: &[u32]) -> Result<BitSet, AllocError>
+    requires { (format : ℕ) × Fill format words.now heads.now }
+    ensures long { IfOk result (λ bits. length bits ≡ length words.now) }
+    ensures bits { IfOk result (AreHeads heads.now) }
 {
-    let mut numbers = vec![in alloc; 0u32; words.len()]?;
-    let mut number = 0;
+    let mut bits = BitSet::none(alloc, words.len())?;
     for head in heads {
-        number += 1;
-        numbers[*head as usize] = number;
+        bits.insert(*head as usize);
     }
-    Ok(numbers)
+    Ok(bits)
 }
 
-/// Whether an index has an object at a place.
+/// Whether a place has its bit; none past the end has.
 #[inline]
-fn has_number(numbers: &[u32], place: u64) -> bool
-    ensures { IsTrue result ↔ (0 < slice_index numbers.now place) }
+fn has_place(bits: &RankedBits, place: u64) -> bool
+    ensures { result ≡ slice_index_or bits.now place false }
 {
-    place < numbers.len() as u64 && numbers[place as usize] != 0
+    place < bits.bits().len() as u64 && bits.contains(place as usize)
 }

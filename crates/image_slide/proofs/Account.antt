@@ -107,17 +107,17 @@ job_handled job at space space_now slid now came came_now kept done d within roo
     }
 
 -- as contracts see it
-pub accounts_so : (heap : Heap) (marks : List Bool) (table : List ℕ) (whole : Bool) (slid : List ℕ) (at : ℕ) (came kept done : List ℕ) (spare : ℕ)
+pub accounts_so : (heap : Heap) (marks : List Bool) (ranks : List Bool) (whole : Bool) (slid : List ℕ) (at : ℕ) (came kept done : List ℕ) (spare : ℕ)
     → ((p : ℕ) → times p slid + times p (flat_map pieces_in came) ≡ times p (pieces_first heap whole) + times p (flat_map pieces_in done))
     → Accounts (record {
       heap = heap;
       marks = marks;
-      table = table;
+      ranks = ranks;
       whole = whole;
       slid = slid;
       stands = record { given = take at came; to_give = drop at came; kept_items = kept; spare = spare; done = done };
     })
-accounts_so heap marks table whole slid at came kept done spare each = record {
+accounts_so heap marks ranks whole slid at came kept done spare each = record {
   pieces = λ p. ap (λ l. times p slid + times p (flat_map pieces_in l)) (take-append-drop at came) ∙ each p;
 }
 
@@ -132,15 +132,15 @@ first_account p heap true few =
     ap (times p) (append-nil (pieces_in (job_of 0 n)) ∙ (job_pieces 0 n small ∙ ap (range_with_len 0) all))
 
 -- pieces that were slid by a work on this image
-pub slid_of : (heap : Heap) (marks : List Bool) (table : List ℕ) (m : Sliding) (parts : List Part) → IsOf heap marks table m
-    → All (IsSlid m.heap m.marks m.table) parts → All (IsSlid heap marks table) parts
-slid_of heap marks table m parts of all =
+pub slid_of : (heap : Heap) (marks : List Bool) (ranks : List Bool) (m : Sliding) (parts : List Part) → IsOf heap marks ranks m
+    → All (IsSlid m.heap m.marks m.ranks) parts → All (IsSlid heap marks ranks) parts
+slid_of heap marks ranks m parts of all =
     subst (λ (z : Heap × List Bool × List ℕ). All (IsSlid z.0 z.1 z.2) parts) (λ k. (of.0 k, of.1 k, of.2 k)) all
 
 -- new sliders are new works
-pub sliders_new : (heap : Heap) (marks : List Bool) (table : List ℕ) (many : ℕ) (works : List Sliding)
-    → AreSliders heap marks table many works → AreNew (map (λ m. m.stands) works)
-sliders_new heap marks table many works are = record {
+pub sliders_new : (heap : Heap) (marks : List Bool) (ranks : List Bool) (many : ℕ) (works : List Sliding)
+    → AreSliders heap marks ranks many works → AreNew (map (λ m. m.stands) works)
+sliders_new heap marks ranks many works are = record {
   each = λ i s at.
       let m = of_map (λ n. n.stands) works i s at in
       subst IsNew m.2 (are.each i m.0 m.1).new;
@@ -164,35 +164,35 @@ abbrev first_of_start : ℕ → Start → ℕ
 first_of_start p s = times p (pieces_first s.image s.whole)
 
 -- the first begins with all pieces, and the others with none
-module _ (heap : Heap) (marks : List Bool) (table : List ℕ) where
+module _ (heap : Heap) (marks : List Bool) (ranks : List Bool) where
   others : (p : ℕ) (works : List Sliding)
-      → ((i : ℕ) (m : Sliding) → IsAt works i m → Begins heap marks table false m)
+      → ((i : ℕ) (m : Sliding) → IsAt works i m → Begins heap marks ranks false m)
       → sum_by (λ m. first_of_start p (start_of m)) works ≡ 0
   others p works each =
       sum-none (λ m. first_of_start p (start_of m)) works
       (λ i m at. ap (first_of_start p) (each i m at).start ∙ times-none p)
 
-  begun_in_all : (p many : ℕ) (works : List Sliding) → 1 ≤ many → AreSliders heap marks table many works
+  begun_in_all : (p many : ℕ) (works : List Sliding) → 1 ≤ many → AreSliders heap marks ranks many works
       → sum_by (λ m. first_of_start p (start_of m)) works ≡ times p (range_with_len 0 (pieces_of (length heap.heads)))
   begun_in_all p many [] some are = absurd (omega (arith, some, are.long))
   begun_in_all p many (m ∷ works) some are =
       let rest = others p works (λ i n at.
-      subst (λ b. Begins heap marks table b n) (ne_eqb (suc i) 0 (λ e. omega (arith, e))) (are.each (suc i) n at)) in
+      subst (λ b. Begins heap marks ranks b n) (ne_eqb (suc i) 0 (λ e. omega (arith, e))) (are.each (suc i) n at)) in
       let head : first_of_start p (start_of m) ≡ times p (range_with_len 0 (pieces_of (length heap.heads))) =
       ap (first_of_start p) (are.each 0 m refl).start in
       omega (arith, sum_by-cons (λ n. first_of_start p (start_of n)) m works, rest, head)
 
-  module _ (many : ℕ) (was is : List Sliding) (left : List ℕ) (some : 1 ≤ many) (sliders : AreSliders heap marks table many was)
+  module _ (many : ℕ) (was is : List Sliding) (left : List ℕ) (some : 1 ≤ many) (sliders : AreSliders heap marks ranks many was)
       (made : map (λ m. start_of m) is ≡ map (λ m. start_of m) was) where
     -- each of them is a work on this image
-    pub is_of : (i : ℕ) (m : Sliding) → IsAt is i m → IsOf heap marks table m
+    pub is_of : (i : ℕ) (m : Sliding) → IsAt is i m → IsOf heap marks ranks m
     is_of i m at =
         let old = of_map (λ n. start_of n) was i (start_of m)
         (subst (λ (l : List Start). IsAt l i (start_of m)) made (at_map (λ n. start_of n) is i m at)) in
-        let same : start_of m ≡ record { image = heap; marks = marks; table = table; whole = eqb i 0 } = sym old.2 ∙ (sliders.each i old.0 old.1).start in (
+        let same : start_of m ≡ record { image = heap; marks = marks; ranks = ranks; whole = eqb i 0 } = sym old.2 ∙ (sliders.each i old.0 old.1).start in (
           ap (λ (s : Start). s.image) same,
           ap (λ (s : Start). s.marks) same,
-          ap (λ (s : Start). s.table) same,
+          ap (λ (s : Start). s.ranks) same,
         )
 
     begun_now : (p : ℕ) → sum_by (λ m. times p (pieces_first m.heap m.whole)) is ≡ times p (range_with_len 0 (pieces_of (length heap.heads)))

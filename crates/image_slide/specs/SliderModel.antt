@@ -12,7 +12,7 @@ abbrev pub sliding_of : Inside → Sliding
 sliding_of s = record {
   heap = s.image.now;
   marks = s.marks.now;
-  table = s.table.now;
+  ranks = s.ranks.now;
   whole = s.whole;
   slid = map (λ part. part.piece) s.parts.items;
   stands = record {
@@ -29,8 +29,8 @@ pub record IsSlider (s : Inside) : Type 0 where
   pub at : s.at ≤ length s.came.items
   pub kept : length s.kept.items ≤ s.space
   pub space : s.space ≤ vec_capacity s.kept
-  pub table : length s.table.now ≡ length s.image.now.words
-  pub slid : All (IsSlid s.image.now s.marks.now s.table.now) s.parts.items
+  pub ranks : length s.ranks.now ≡ length s.image.now.words
+  pub slid : All (IsSlid s.image.now s.marks.now s.ranks.now) s.parts.items
   pub account : (p : ℕ)
       → times p (map (λ part. part.piece) s.parts.items) + times p (flat_map pieces_in s.came.items)
       ≡ times p (pieces_first s.image.now s.whole) + times p (flat_map pieces_in s.done.items)

@@ -10,12 +10,12 @@ use Rattle.image_slide.specs.Pieces.{pieces_of}
 use Rattle.image_slide.specs.Jobs.{job_of, pieces_in}
 use Rattle.image_slide.specs.declared.starts.Start.{Start}
 
--- the image, its marks and the table of new places, whether it began with the job of all pieces, the
+-- the image, its marks and its live words, whether it began with the job of all pieces, the
 -- pieces that it slid, and the standing of the work
 pub record Sliding : Type 0 where
   pub heap : Heap
   pub marks : List Bool
-  pub table : List ℕ
+  pub ranks : List Bool
   pub whole : Bool
   pub slid : List ℕ
   pub stands : Standing
@@ -30,15 +30,15 @@ pieces_first heap whole = if whole then range_with_len 0 (pieces_of (length heap
 
 -- what it was made with
 abbrev pub start_of : Sliding → Start
-start_of m = record { image = m.heap; marks = m.marks; table = m.table; whole = m.whole }
+start_of m = record { image = m.heap; marks = m.marks; ranks = m.ranks; whole = m.whole }
 
--- it is a work on this image, with these marks and this table
-abbrev pub IsOf : Heap → List Bool → List ℕ → Sliding → Type 0
-IsOf heap marks table m = (m.heap ≡ heap) × (m.marks ≡ marks) × (m.table ≡ table)
+-- it is a work on this image, with these marks and live words
+abbrev pub IsOf : Heap → List Bool → List Bool → Sliding → Type 0
+IsOf heap marks ranks m = (m.heap ≡ heap) × (m.marks ≡ marks) × (m.ranks ≡ ranks)
 
 -- and so are all of these
-abbrev pub AreOf : Heap → List Bool → List ℕ → List Sliding → Type 0
-AreOf heap marks table works = (i : ℕ) (m : Sliding) → IsAt works i m → IsOf heap marks table m
+abbrev pub AreOf : Heap → List Bool → List Bool → List Sliding → Type 0
+AreOf heap marks ranks works = (i : ℕ) (m : Sliding) → IsAt works i m → IsOf heap marks ranks m
 
 -- What a slider slid, and the pieces of the jobs that it gave and has to give, are those with which it
 -- began and those of the jobs that it did, each as often.
@@ -48,13 +48,13 @@ pub record Accounts (m : Sliding) : Type 0 where
       ≡ times p (pieces_first m.heap m.whole) + times p (flat_map pieces_in m.stands.done)
 
 -- a new slider
-pub record Begins (heap : Heap) (marks : List Bool) (table : List ℕ) (whole : Bool) (m : Sliding) : Type 0 where
-  pub start : start_of m ≡ record { image = heap; marks = marks; table = table; whole = whole }
+pub record Begins (heap : Heap) (marks : List Bool) (ranks : List Bool) (whole : Bool) (m : Sliding) : Type 0 where
+  pub start : start_of m ≡ record { image = heap; marks = marks; ranks = ranks; whole = whole }
   pub new : IsNew m.stands
   pub none : whole ≡ false → m.stands.to_give ≡ []
 
 -- so many new sliders, of which the first begins with the job of all pieces
-pub record AreSliders (heap : Heap) (marks : List Bool) (table : List ℕ) (many : ℕ)
+pub record AreSliders (heap : Heap) (marks : List Bool) (ranks : List Bool) (many : ℕ)
     (works : List Sliding) : Type 0 where
   pub long : length works ≡ many
-  pub each : (i : ℕ) (m : Sliding) → IsAt works i m → Begins heap marks table (i == 0) m
+  pub each : (i : ℕ) (m : Sliding) → IsAt works i m → Begins heap marks ranks (i == 0) m

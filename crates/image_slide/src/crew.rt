@@ -20,6 +20,7 @@ use crate::pieces::{Part, pieces_of, slid_piece};
 use crate::places::new_places;
 use crate::slide::{Moved, slide_one};
 use crate::sliders::{Slider, sliders};
+use bit_sets::RankedBits;
 use image_core::Image;
 use std::alloc::{AllocError, Global};
 use std::sync::Wait;
@@ -35,7 +36,7 @@ use work_pool::{Crew, Gate, Way};
 /// the answer is that of `slide_one`.
 ///
 /// The gate is asked before each try to take from the bay, by the worker's number. The call waits for
-/// the workers. It takes memory for the slid pieces, for the new image and for a table of new places,
+/// the workers. It takes memory for the slid pieces, for the new image and for the live words' bits and counts,
 /// and fails only where memory runs out.
 pub fn slide_with<R: Threads + Wait + Sync, G: Gate + Sync>(
     rt: &R,
@@ -53,13 +54,7 @@ pub fn slide_with<R: Threads + Wait + Sync, G: Gate + Sync>(
         return slide_one(alloc, image, live);
     }
     let moved = moved_with(rt, alloc, image, live, crew, gate)?;
-    Ok(Image::from_indexed(
-        image.format(),
-        moved.words,
-        moved.roots,
-        moved.heads,
-        moved.numbers,
-    ))
+    Image::from_lawful(alloc, image.format(), moved.words, moved.roots, moved.heads)
 }
 
 /// Moves the marked objects by a crew.
@@ -75,16 +70,15 @@ pub(crate) fn moved_with<R: Threads + Wait + Sync, G: Gate + Sync>(
     ensures { IfOk result (IsMoved image.now marks.now) }
 {
     let new = new_places(alloc, image.format(), image.words(), image.heads(), marks)?;
-    let table = new.table.as_slice();
-    let parts = slid_by(rt, alloc, image, marks, table, crew, gate)?;
+    let ranks = &new.ranks;
+    let parts = slid_by(rt, alloc, image, marks, ranks, crew, gate)?;
     let pieces = pieces_of(image.objects()) as usize;
     let words = joined(alloc, parts, pieces, new.size as usize)?;
-    let roots = new_names(alloc, image.roots(), table)?;
+    let roots = new_names(alloc, image.roots(), ranks)?;
     Ok(Moved {
         words,
         roots,
         heads: new.heads,
-        numbers: new.numbers,
     })
 }
 
@@ -94,27 +88,27 @@ fn slid_by<R: Threads + Wait + Sync, G: Gate + Sync>(
     alloc: Global,
     image: &Image,
     marks: &[bool],
-    table: &[u32],
+    ranks: &RankedBits,
     crew: &Crew,
     gate: &G,
 ) -> Result<Vec<Part>, AllocError>
     requires crew { IsCrew crew.now }
-    requires table { length table.now ≡ length image.now.words }
+    requires ranks { length ranks.now ≡ length image.now.words }
     ensures once { IfOk result (λ parts. AreOnce (pieces_of (length image.now.heads)) (map (λ part. part.piece) parts.items)) }
-    ensures slid { IfOk result (λ parts. All (IsSlid image.now marks.now table.now) parts.items) }
+    ensures slid { IfOk result (λ parts. All (IsSlid image.now marks.now ranks.now) parts.items) }
 {
-    let works = sliders(alloc, image, marks, table, crew.workers)?;
+    let works = sliders(alloc, image, marks, ranks, crew.workers)?;
     let Ended { works, left, .. } = run_crew(rt, alloc, crew, Way::Queue, works, gate)?;
     let mut parts = gathered(alloc, works)?;
-    slide_left(alloc, image, marks, table, left.as_slice(), &mut parts)?;
+    slide_left(alloc, image, marks, ranks, left.as_slice(), &mut parts)?;
     Ok(parts)
 }
 
 /// The pieces that these workers slid.
 fn gathered<'a>(alloc: Global, works: Vec<Slider<'a>>) -> Result<Vec<Part>, AllocError>
     ensures numbers { IfOk result (λ parts. (p : ℕ) → times p (map (λ part. part.piece) parts.items) ≡ times p (flat_map (λ m. m.slid) works.entry.items)) }
-    ensures slid { IfOk result (λ parts. (heap : Heap) (marks : List Bool) (table : List ℕ)
-        → AreOf heap marks table works.entry.items → All (IsSlid heap marks table) parts.items) }
+    ensures slid { IfOk result (λ parts. (heap : Heap) (marks : List Bool) (ranks : List Bool)
+        → AreOf heap marks ranks works.entry.items → All (IsSlid heap marks ranks) parts.items) }
     ensures accounts { IfOk result (λ parts. (i : ℕ) (m : _) → IsAt works.entry.items i m → Accounts m) }
 {
     let mut parts = Vec::new(alloc);
@@ -131,17 +125,17 @@ fn slide_left(
     alloc: Global,
     image: &Image,
     marks: &[bool],
-    table: &[u32],
+    ranks: &RankedBits,
     left: &[u64],
     parts: &mut Vec<Part>,
 ) -> Result<(), AllocError>
-    requires table { length table.now ≡ length image.now.words }
-    requires slid { All (IsSlid image.now marks.now table.now) parts.old.items }
+    requires ranks { length ranks.now ≡ length image.now.words }
+    requires slid { All (IsSlid image.now marks.now ranks.now) parts.old.items }
     ensures numbers { OnOk result (map (λ part. part.piece) parts.new.items ≡ map (λ part. part.piece) parts.old.items ++ flat_map pieces_in left.now) }
-    ensures slid { All (IsSlid image.now marks.now table.now) parts.new.items }
+    ensures slid { All (IsSlid image.now marks.now ranks.now) parts.new.items }
 {
     for job in left {
-        slide_job(alloc, image, marks, table, *job, parts)?;
+        slide_job(alloc, image, marks, ranks, *job, parts)?;
     }
     Ok(())
 }
@@ -151,17 +145,17 @@ fn slide_job(
     alloc: Global,
     image: &Image,
     marks: &[bool],
-    table: &[u32],
+    ranks: &RankedBits,
     job: u64,
     parts: &mut Vec<Part>,
 ) -> Result<(), AllocError>
-    requires table { length table.now ≡ length image.now.words }
-    requires slid { All (IsSlid image.now marks.now table.now) parts.old.items }
+    requires ranks { length ranks.now ≡ length image.now.words }
+    requires slid { All (IsSlid image.now marks.now ranks.now) parts.old.items }
     ensures numbers { OnOk result (map (λ part. part.piece) parts.new.items ≡ map (λ part. part.piece) parts.old.items ++ pieces_in job) }
-    ensures slid { All (IsSlid image.now marks.now table.now) parts.new.items }
+    ensures slid { All (IsSlid image.now marks.now ranks.now) parts.new.items }
 {
     for piece in first_piece(job)..end_piece(job) {
-        parts.push(slid_piece(alloc, image, marks, table, piece)?)?;
+        parts.push(slid_piece(alloc, image, marks, ranks, piece)?)?;
     }
     Ok(())
 }

@@ -2,11 +2,11 @@
 //!
 //! [`slide_one`] does it on one thread, [`slide_with`] by a crew of workers, with one answer: the slide
 //! of the image by its live objects. Who calls them says which objects are live, and gets an image that
-//! needs no test and no further walk: its headers and their index are made with the table of new places.
-//! The table has 0 for an object that goes, so a weak word of one becomes 0, and a reference and a weak
-//! word are renamed alike.
+//! needs no test and no further walk: its headers are made with the new places. The words of the live
+//! objects are bits, and the new place of a word is its rank, how many of them stand below it. A word
+//! that names an object without its bit becomes 0, and a reference and a weak word are renamed alike.
 //!
-//! The table comes first, so that the words of a piece (256 objects in address order) are a function of
+//! The ranks come first, so that the words of a piece (256 objects in address order) are a function of
 //! the image, the marks and the piece's number. Workers and theorem share that function:
 //! [`slid_in_pieces`] says that the words of the slide are those of its pieces, in order. A job is a
 //! range of pieces. A worker slides the first piece of a job, and halves what is left of it, again and

@@ -1,10 +1,11 @@
-//! The words of objects, moved: renamed by a table of new places.
+//! The words of objects, moved: renamed by the ranks of live words.
 ghost use Rattle.std.specs.Prelude.{◌≡◌, ◌+◌, ◌≤◌, ◌^◌, ◌++◌, length, vec_capacity, vec_len, map, sum_by, All, IfOk};
 ghost use Rattle.std.specs.List.{flat_map};
 ghost use Rattle.image_core.specs.Object.{Fits, size_at, naming_at};
 ghost use Rattle.image_slide.specs.Slide.{kept};
-ghost use Rattle.image_slide.specs.Table.{AreNames, new_name, moved_by};
+ghost use Rattle.image_slide.specs.LiveWords.{AreNames, new_name, moved_by};
 
+use bit_sets::RankedBits;
 use image_core::{data, references, size, weak_references};
 use std::alloc::{AllocError, Global};
 
@@ -23,7 +24,7 @@ pub(crate) fn words_of(format: u8, words: &[u64], heads: &[u32], marks: &[bool])
     count
 }
 
-/// The words of the marked ones of these objects, one object after another, renamed by the table.
+/// The words of the marked ones of these objects, one object after another, renamed by the ranks.
 /// `count` is how many they are.
 pub(crate) fn moved_words(
     alloc: Global,
@@ -31,47 +32,47 @@ pub(crate) fn moved_words(
     words: &[u64],
     heads: &[u32],
     marks: &[bool],
-    table: &[u32],
+    ranks: &RankedBits,
     count: usize,
 ) -> Result<Vec<u64>, AllocError>
     requires fit { All (Fits format words.now) heads.now }
-    requires names { All (λ head. AreNames table.now (naming_at format words.now head)) heads.now }
+    requires names { All (λ head. AreNames ranks.now (naming_at format words.now head)) heads.now }
     requires count { sum_by (size_at format words.now) (kept heads.now marks.now) ≤ count }
-    ensures { IfOk result (λ moved. moved.items ≡ flat_map (moved_by format words.now table.now) (kept heads.now marks.now)) }
+    ensures { IfOk result (λ moved. moved.items ≡ flat_map (moved_by format words.now ranks.now) (kept heads.now marks.now)) }
 {
     let mut out = Vec::with_capacity(alloc, count)?;
     for (head, marked) in heads.iter().zip(marks) {
         if *marked {
-            push_moved(format, words, *head as usize, table, &mut out);
+            push_moved(format, words, *head as usize, ranks, &mut out);
         }
     }
     Ok(out)
 }
 
-/// Appends the words of an object, renamed by the table. There is room for them.
-fn push_moved(format: u8, words: &[u64], head: usize, table: &[u32], out: &mut Vec<u64>)
+/// Appends the words of an object, renamed by the ranks. There is room for them.
+fn push_moved(format: u8, words: &[u64], head: usize, ranks: &RankedBits, out: &mut Vec<u64>)
     requires fits { Fits format words.now head }
-    requires names { AreNames table.now (naming_at format words.now head) }
+    requires names { AreNames ranks.now (naming_at format words.now head) }
     requires room { vec_len out.old + size_at format words.now head ≤ vec_capacity out.old }
-    ensures items { out.new.items ≡ out.old.items ++ moved_by format words.now table.now head }
+    ensures items { out.new.items ≡ out.old.items ++ moved_by format words.now ranks.now head }
     ensures capacity { vec_capacity out.new ≡ vec_capacity out.old }
 {
     out.push_reserved(words[head]);
-    push_names(references(words, head), table, out);
-    push_names(weak_references(format, words, head), table, out);
+    push_names(references(words, head), ranks, out);
+    push_names(weak_references(format, words, head), ranks, out);
     push_plain(data(format, words, head), out);
 }
 
-/// Appends these words, renamed by the table. There is room for them.
+/// Appends these words, renamed by the ranks. There is room for them.
 #[inline]
-fn push_names(names: &[u64], table: &[u32], out: &mut Vec<u64>)
-    requires names { AreNames table.now names.now }
+fn push_names(names: &[u64], ranks: &RankedBits, out: &mut Vec<u64>)
+    requires names { AreNames ranks.now names.now }
     requires room { vec_len out.old + length names.now ≤ vec_capacity out.old }
-    ensures items { out.new.items ≡ out.old.items ++ map (new_name table.now) names.now }
+    ensures items { out.new.items ≡ out.old.items ++ map (new_name ranks.now) names.now }
     ensures capacity { vec_capacity out.new ≡ vec_capacity out.old }
 {
     for word in names {
-        out.push_reserved(new_name(table, *word));
+        out.push_reserved(new_name(ranks, *word));
     }
 }
 
@@ -87,26 +88,35 @@ fn push_plain(plain: &[u64], out: &mut Vec<u64>)
     }
 }
 
-/// These words, renamed by the table.
-pub(crate) fn new_names(alloc: Global, words: &[u64], table: &[u32]) -> Result<Vec<u64>, AllocError>
-    requires { AreNames table.now words.now }
-    ensures { IfOk result (λ names. names.items ≡ map (new_name table.now) words.now) }
+/// These words, renamed by the ranks.
+pub(crate) fn new_names(
+    alloc: Global,
+    words: &[u64],
+    ranks: &RankedBits,
+) -> Result<Vec<u64>, AllocError>
+    requires { AreNames ranks.now words.now }
+    ensures { IfOk result (λ names. names.items ≡ map (new_name ranks.now) words.now) }
 {
     words
         .iter()
-        .map(|word| new_name(table, *word))
+        .map(|word| new_name(ranks, *word))
         .collect(alloc)
 }
 
-/// The entry in the table of the object that a word names, and 0 for 0.
+/// A word that names a live object names it at its new place, the rank of its header; each other word
+/// becomes 0.
 #[inline]
-fn new_name(table: &[u32], word: u64) -> u64
-    requires { word ≤ length table.now }
-    ensures { result ≡ new_name table.now word }
+fn new_name(ranks: &RankedBits, word: u64) -> u64
+    requires { word ≤ length ranks.now }
+    ensures { result ≡ new_name ranks.now word }
 {
     if word == 0 {
-        0
+        return 0;
+    }
+    let place = (word - 1) as usize;
+    if ranks.contains(place) {
+        ranks.rank(place) as u64 + 1
     } else {
-        table[(word - 1) as usize] as u64
+        0
     }
 }

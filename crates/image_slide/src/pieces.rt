@@ -7,6 +7,7 @@ ghost use Rattle.image_slide.specs.Pieces.{pieces_of, in_piece, piece_words};
 ghost use Rattle.image_slide.specs.Parts.{IsSlid};
 
 use crate::moves::{moved_words, words_of};
+use bit_sets::RankedBits;
 use image_core::Image;
 use std::alloc::{AllocError, Global};
 
@@ -52,19 +53,19 @@ pub(crate) fn slid_piece(
     alloc: Global,
     image: &Image,
     marks: &[bool],
-    table: &[u32],
+    ranks: &RankedBits,
     piece: u64,
 ) -> Result<Part, AllocError>
     requires small { piece < 2 ^ 32 }
-    requires table { length table.now ≡ length image.now.words }
+    requires ranks { length ranks.now ≡ length image.now.words }
     ensures number { IfOk result (λ part. part.piece ≡ piece) }
-    ensures slid { IfOk result (IsSlid image.now marks.now table.now) }
+    ensures slid { IfOk result (IsSlid image.now marks.now ranks.now) }
 {
     let format = image.format();
     let words = image.words();
     let heads = in_piece(image.heads(), piece);
     let marks = in_piece(marks, piece);
     let count = words_of(format, words, heads, marks);
-    let words = moved_words(alloc, format, words, heads, marks, table, count)?;
+    let words = moved_words(alloc, format, words, heads, marks, ranks, count)?;
     Ok(Part { piece, words })
 }

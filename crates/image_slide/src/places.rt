@@ -1,20 +1,20 @@
 //! Where marked objects go when they are slid.
 ghost use Rattle.std.specs.Prelude.{◌≤◌, ◌^◌, length, IfOk};
 ghost use Rattle.image_slide.specs.Slide.{kept};
-ghost use Rattle.image_slide.specs.Table.{InOrder, AreNewPlaces};
+ghost use Rattle.image_slide.specs.LiveWords.{InOrder, AreNewPlaces};
 
+use bit_sets::{BitSet, RankedBits};
 use image_core::size;
 use std::alloc::{AllocError, Global};
 
 /// Where the marked objects go.
 #[derive(Drop)]
 pub(crate) struct NewPlaces {
-    /// By word, 1 + the new place of the marked object whose header stands there, or 0.
-    pub(crate) table: Vec<u32>,
-    /// The new places, in order.
+    /// For each word whether it is of a marked object, and how many such words stand before it: that
+    /// is its new place.
+    pub(crate) ranks: RankedBits,
+    /// The new places of the marked objects, in order.
     pub(crate) heads: Vec<u32>,
-    /// By word of the slide, 1 + the number of the object whose header stands there, or 0.
-    pub(crate) numbers: Vec<u32>,
     /// How many words the marked objects have.
     pub(crate) size: u32,
 }
@@ -31,23 +31,21 @@ pub(crate) fn new_places(
     requires order { InOrder format words.now 0 (kept heads.now marks.now) }
     ensures { IfOk result (AreNewPlaces format words.now (kept heads.now marks.now)) }
 {
-    let mut table = vec![in alloc; 0u32; words.len()]?;
-    let mut numbers = vec![in alloc; 0u32; words.len()]?;
+    let mut live = BitSet::none(alloc, words.len())?;
     let mut places = Vec::with_capacity(alloc, heads.len())?;
     let mut next = 0u32;
     for (head, marked) in heads.iter().zip(marks) {
         if *marked {
             let at = *head as usize;
-            table[at] = next + 1;
+            let size = size(format, words[at]);
+            live.insert_run(at, at + size);
             places.push_reserved(next);
-            numbers[next as usize] = places.len() as u32;
-            next += size(format, words[at]) as u32;
+            next += size as u32;
         }
     }
     Ok(NewPlaces {
-        table,
+        ranks: RankedBits::from_bits(alloc, live)?,
         heads: places,
-        numbers,
         size: next,
     })
 }

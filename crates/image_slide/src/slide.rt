@@ -18,27 +18,19 @@ pub(crate) struct Moved {
     pub(crate) roots: Vec<u64>,
     /// The places of their headers, in order.
     pub(crate) heads: Vec<u32>,
-    /// By word, 1 + the number of the object whose header stands there, or 0.
-    pub(crate) numbers: Vec<u32>,
 }
 
 /// The image with its live objects alone, in order and without gaps. `live` has a value for each
 /// object: whether it is live. The format stays, and a weak word becomes 0 where its object is not live.
 ///
-/// It takes memory for the new image and for a table of new places, and fails only where memory runs
+/// It takes memory for the new image and for the live words' bits and counts, and fails only where memory runs
 /// out.
 pub fn slide_one(alloc: Global, image: &Image, live: &[bool]) -> Result<Image, AllocError>
     requires { MarksLive image.now live.now }
     ensures { IfOk result (λ slid. slid ≡ slide image.now live.now) }
 {
     let moved = moved_one(alloc, image, live)?;
-    Ok(Image::from_indexed(
-        image.format(),
-        moved.words,
-        moved.roots,
-        moved.heads,
-        moved.numbers,
-    ))
+    Image::from_lawful(alloc, image.format(), moved.words, moved.roots, moved.heads)
 }
 
 /// Moves the marked objects.
@@ -49,13 +41,12 @@ pub(crate) fn moved_one(alloc: Global, image: &Image, marks: &[bool]) -> Result<
     let words = image.words();
     let heads = image.heads();
     let new = new_places(alloc, format, words, heads, marks)?;
-    let table = new.table.as_slice();
-    let moved = moved_words(alloc, format, words, heads, marks, table, new.size as usize)?;
-    let roots = new_names(alloc, image.roots(), table)?;
+    let ranks = &new.ranks;
+    let moved = moved_words(alloc, format, words, heads, marks, ranks, new.size as usize)?;
+    let roots = new_names(alloc, image.roots(), ranks)?;
     Ok(Moved {
         words: moved,
         roots,
         heads: new.heads,
-        numbers: new.numbers,
     })
 }

@@ -7,6 +7,7 @@ ghost use Rattle.image_slide.specs.Sliding.{jobs_first, Begins, AreSliders, Acco
 use crate::jobs::{end_piece, first_piece, halve, job};
 use crate::pieces::{Part, pieces_of, slid_piece};
 use crate::starts::Start;
+use bit_sets::RankedBits;
 use image_core::Image;
 use std::alloc::{AllocError, Global};
 use std::marker::Model;
@@ -19,7 +20,7 @@ pub(crate) struct Slider<'a> {
     alloc: Global,
     image: &'a Image,
     marks: &'a [bool],
-    table: &'a [u32],
+    ranks: &'a RankedBits,
     whole: bool,
     parts: Vec<Part>,
     came: Vec<u64>,
@@ -74,25 +75,25 @@ fn do_job(
     alloc: Global,
     image: &Image,
     marks: &[bool],
-    table: &[u32],
+    ranks: &RankedBits,
     job: u64,
     parts: &mut Vec<Part>,
     jobs: &mut Vec<u64>,
 ) -> Result<(), AllocError>
-    requires table { length table.now ≡ length image.now.words }
-    requires slid { All (IsSlid image.now marks.now table.now) parts.old.items }
+    requires ranks { length ranks.now ≡ length image.now.words }
+    requires slid { All (IsSlid image.now marks.now ranks.now) parts.old.items }
     requires parts_room { length parts.old.items + 1 ≤ vec_capacity parts.old }
     requires jobs_room { length jobs.old.items + (end_of job - first_of job) ≤ vec_capacity jobs.old }
     ensures does { OnOk result (DoesJob job (map (λ part. part.piece) parts.old.items) (map (λ part. part.piece) parts.new.items) jobs.old.items jobs.new.items) }
     ensures failed { OnErr result ((parts.new.items ≡ parts.old.items) × (jobs.new.items ≡ jobs.old.items)) }
-    ensures slid { All (IsSlid image.now marks.now table.now) parts.new.items }
+    ensures slid { All (IsSlid image.now marks.now ranks.now) parts.new.items }
 {
     let first = first_piece(job);
     let end = end_piece(job);
     if first >= end {
         return Ok(());
     }
-    let part = slid_piece(alloc, image, marks, table, first)?;
+    let part = slid_piece(alloc, image, marks, ranks, first)?;
     parts.push_reserved(part);
     halve(first, end, jobs);
     Ok(())
@@ -122,7 +123,7 @@ impl<'a> Work for Slider<'a> {
             self.alloc,
             self.image,
             self.marks,
-            self.table,
+            self.ranks,
             item,
             &mut self.parts,
             &mut self.came,
@@ -152,24 +153,24 @@ impl<'a> Work for Slider<'a> {
 }
 
 impl<'a> Slider<'a> {
-    // The work of a worker on this image, with its marks and the table of new places. It begins with
+    // The work of a worker on this image, with its marks and the ranks of its live words. It begins with
     // the job of all pieces, or with nothing.
     pub(crate) fn new(
         alloc: Global,
         image: &'a Image,
         marks: &'a [bool],
-        table: &'a [u32],
+        ranks: &'a RankedBits,
         whole: bool,
     ) -> Result<Slider<'a>, AllocError>
-        requires { length table.now ≡ length image.now.words }
-        ensures { IfOk result (Begins image.now marks.now table.now whole) }
+        requires { length ranks.now ≡ length image.now.words }
+        ensures { IfOk result (Begins image.now marks.now ranks.now whole) }
     {
         let came = first_jobs(alloc, image, whole)?;
         Ok(Slider {
             alloc,
             image,
             marks,
-            table,
+            ranks,
             whole,
             parts: Vec::new(alloc),
             came,
@@ -183,7 +184,7 @@ impl<'a> Slider<'a> {
     // The pieces that it slid.
     pub(crate) fn into_parts(self) -> Vec<Part>
         ensures numbers { map (λ part. part.piece) result.items ≡ self.entry.slid }
-        ensures slid { All (IsSlid self.entry.heap self.entry.marks self.entry.table) result.items }
+        ensures slid { All (IsSlid self.entry.heap self.entry.marks self.entry.ranks) result.items }
         ensures accounts { Accounts self.entry }
     {
         let Slider { parts, .. } = self;
@@ -209,15 +210,15 @@ pub(crate) fn sliders<'a>(
     alloc: Global,
     image: &'a Image,
     marks: &'a [bool],
-    table: &'a [u32],
+    ranks: &'a RankedBits,
     workers: u32,
 ) -> Result<Vec<Slider<'a>>, AllocError>
-    requires { length table.now ≡ length image.now.words }
-    ensures { IfOk result (λ works. AreSliders image.now marks.now table.now workers works.items) }
+    requires { length ranks.now ≡ length image.now.words }
+    ensures { IfOk result (λ works. AreSliders image.now marks.now ranks.now workers works.items) }
 {
     let mut works = Vec::new(alloc);
     for worker in 0..workers {
-        works.push(Slider::new(alloc, image, marks, table, worker == 0)?)?;
+        works.push(Slider::new(alloc, image, marks, ranks, worker == 0)?)?;
     }
     Ok(works)
 }

@@ -2,14 +2,14 @@
 use image_core::Image;
 use std::collections::LinkedList;
 
-/// The image, its marks and the table of new places, and whether it began with the job of all pieces.
+/// The image, its marks and its live words, and whether it began with the job of all pieces.
 pub struct Start {
     /// The image.
     pub image: Image,
     /// A mark for each object.
     pub marks: LinkedList<bool>,
-    /// By word, 1 + the new place of the marked object whose header stands there, or 0.
-    pub table: LinkedList<u32>,
+    /// For each word whether it is of a marked object.
+    pub ranks: LinkedList<bool>,
     /// Whether it began with the job of all pieces, or with nothing.
     pub whole: bool,
 }

@@ -5,11 +5,11 @@ use Rattle.image_core.proofs.check.headers.Goals as goal
 
 pub of_word-requires : goal.of_word-requires
 of_word-requires c =
-    let heads = c.in_ok-heads.heads.items in
+    let heads = c.in_ok-found.found.heads.items in
     let within : 1048576 < length heads = omega (arith, c.if-len-gt-MOST_OBJECTS.true, c.len.ensures) in
     omega (
       arith,
-      Fill-fits c.args.format c.args.words.now heads c.in_ok-heads.ensures.fill 1048576 within,
+      Fill-fits c.args.format c.args.words.now heads c.in_ok-found.ensures.fill 1048576 within,
       get_or_default heads 1048576 c.index.result.now 0 within,
       c.index.ensures,
     )

@@ -36,12 +36,12 @@ loop-work-preserved c =
         times-append p (slid_by_all rest) (work.slid ++ []),
         ap (times p) (append-nil work.slid),
       );
-      slid = λ heap marks table all.
-          let old = inv.slid heap marks table all in
+      slid = λ heap marks ranks all.
+          let old = inv.slid heap marks ranks all in
           let of = old.0 (length rest) work (subst (λ (l : List Sliding). IsAt l (length rest) work) (sym popped) (at_last rest work (length rest) refl)) in (
             (λ i m at. old.0 i m (subst (λ (l : List Sliding). IsAt l i m) (sym popped) (at_longer rest (work ∷ []) i m at))),
-            All-same (IsSlid heap marks table) c.append.new.self.items _ pushed
-                (All-append (IsSlid heap marks table) parts more old.1 (slid_of heap marks table work more of own.slid)),
+            All-same (IsSlid heap marks ranks) c.append.new.self.items _ pushed
+                (All-append (IsSlid heap marks ranks) parts more old.1 (slid_of heap marks ranks work more of own.slid)),
           );
       accounts = λ i m at. elim (inv.accounts i m at) [
         | inl here ↦ elim (at_snoc rest work m i (subst (λ (l : List Sliding). IsAt l i m) popped here)) [

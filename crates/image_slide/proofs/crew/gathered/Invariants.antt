@@ -12,8 +12,8 @@ abbrev pub invariant-loop-work : goal.invariant-loop-work
 invariant-loop-work l = record {
   numbers : (p : ℕ) → times p (map (λ part. part.piece) l.parts.items) + times p (flat_map (λ m. m.slid) l.rest.items)
       ≡ times p (flat_map (λ m. m.slid) l.fn.works.items);
-  slid : (heap : Heap) (marks : List Bool) (table : List ℕ) → AreOf heap marks table l.fn.works.items
-      → AreOf heap marks table l.rest.items × All (IsSlid heap marks table) l.parts.items;
+  slid : (heap : Heap) (marks : List Bool) (ranks : List Bool) → AreOf heap marks ranks l.fn.works.items
+      → AreOf heap marks ranks l.rest.items × All (IsSlid heap marks ranks) l.parts.items;
   accounts : (i : ℕ) (m : Sliding) → IsAt l.fn.works.items i m → IsAt l.rest.items i m ⊎ Accounts m;
 }
 

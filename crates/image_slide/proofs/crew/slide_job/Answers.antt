@@ -11,7 +11,7 @@ use Rattle.image_slide.proofs.crew.slide_job.Goals as goal
 pub loop-piece-preserved : goal.loop-piece-preserved
 loop-piece-preserved c =
     let inv = c.loop-piece.invariant in let parts = c.loop-piece.parts.items in let part = c.in_ok-slid_piece.field-0 in
-    let P = IsSlid c.args.image.now c.args.marks.now c.args.table.now in
+    let P = IsSlid c.args.image.now c.args.marks.now c.args.ranks.now in
     let first = first_of c.args.job in let piece : ℕ = c.loop-piece.piece in
     let low = c.loop-piece.auto.piece in let value = c.first_piece-piece.ensures.value in
     let pushed = c.in_ok-push.ensures.items in

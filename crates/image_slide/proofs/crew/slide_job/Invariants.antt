@@ -9,5 +9,5 @@ invariant-loop-piece l = record {
   numbers : map (λ part. part.piece) l.parts.items
       ≡ map (λ part. part.piece) l.initial.parts.items ++ range_with_len (first_of l.job) (l.piece - first_of l.job);
   few : l.piece - first_of l.job ≤ end_of l.job - first_of l.job;
-  slid : All (IsSlid l.image l.marks l.table) l.parts.items;
+  slid : All (IsSlid l.image l.marks l.ranks) l.parts.items;
 }

@@ -8,5 +8,5 @@ abbrev pub invariant-loop-job : goal.invariant-loop-job
 invariant-loop-job l = record {
   numbers : map (λ part. part.piece) l.parts.items
       ≡ map (λ part. part.piece) l.initial.parts.items ++ flat_map pieces_in (take l.job-index l.left);
-  slid : All (IsSlid l.image l.marks l.table) l.parts.items;
+  slid : All (IsSlid l.image l.marks l.ranks) l.parts.items;
 }

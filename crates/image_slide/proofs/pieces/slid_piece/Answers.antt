@@ -1,6 +1,6 @@
 use Rattle.std.proofs.Common.{ap, arith, length}
 use Rattle.image_core.specs.Object.{Fits, naming_at}
-use Rattle.image_slide.specs.Table.{AreNames}
+use Rattle.image_slide.specs.LiveWords.{AreNames}
 use Rattle.image_slide.proofs.Pieced.{in_piece_all, in_piece_few}
 use Rattle.image_slide.proofs.Renaming.{heads_fit, heads_names}
 use Rattle.image_slide.proofs.pieces.slid_piece.Goals as goal
@@ -29,6 +29,6 @@ moved_words-requires-clause-fit c =
 
 pub moved_words-requires-clause-names : goal.moved_words-requires-clause-names
 moved_words-requires-clause-names c =
-    let heap = c.args.image.now in let lawful = c.heads.ensures.lawful in let table = c.args.table.now in
+    let heap = c.args.image.now in let lawful = c.heads.ensures.lawful in let ranks = c.args.ranks.now in
     rw (c.format-format.ensures.format, c.words-words.ensures.words, c.in_piece-heads.ensures, c.heads.ensures.heads)
-    (in_piece_all (λ head. AreNames table (naming_at heap.format heap.words head)) heap.heads c.args.piece (heads_names heap lawful table c.requires.table))
+    (in_piece_all (λ head. AreNames ranks (naming_at heap.format heap.words head)) heap.heads c.args.piece (heads_names heap lawful ranks c.requires.ranks))

@@ -12,5 +12,5 @@ invariant-loop-head l =
     record {
       rest : drop (vec_len l.places) (kept l.heads l.marks) ≡ kept heads (iter_rest (zip_second l.head-iterator));
       room : vec_len l.places + length heads ≤ vec_capacity l.places;
-      placing : Placing l.format l.words (kept l.heads l.marks) (vec_len l.places) l.next l.table.items l.places.items l.numbers.items;
+      placing : Placing l.format l.words (kept l.heads l.marks) (vec_len l.places) l.next l.live l.places.items;
     }

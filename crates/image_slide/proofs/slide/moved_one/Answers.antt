@@ -1,6 +1,6 @@
 use Rattle.std.proofs.Common.{arith}
 use Rattle.image_slide.specs.Slide.{kept}
-use Rattle.image_slide.specs.Table.{AreNewPlaces}
+use Rattle.image_slide.specs.LiveWords.{AreNewPlaces}
 use Rattle.image_slide.proofs.Order.{InOrder-kept}
 use Rattle.image_slide.proofs.Renaming.{heads_fit, heads_names, AreNames-lawful}
 use Rattle.image_slide.proofs.slide.moved_one.Goals as goal
@@ -16,18 +16,18 @@ moved_words-requires-clause-fit c =
 
 pub moved_words-requires-clause-names : goal.moved_words-requires-clause-names
 moved_words-requires-clause-names c =
-    let each = rw c.words-words.ensures.words at c.in_ok-new.ensures.table.each in
-    rw (c.format-format.ensures.format, c.words-words.ensures.words, c.heads-heads.ensures.heads, c.as_slice-table.ensures.value)
-    (heads_names c.args.image.now c.heads-heads.ensures.lawful c.in_ok-new.new.table.items each)
+    let each = rw c.words-words.ensures.words at c.in_ok-new.ensures.ranks.each in
+    rw (c.format-format.ensures.format, c.words-words.ensures.words, c.heads-heads.ensures.heads)
+    (heads_names c.args.image.now c.heads-heads.ensures.lawful c.in_ok-new.new.ranks each)
 
 pub moved_words-requires-clause-count : goal.moved_words-requires-clause-count
 moved_words-requires-clause-count c = omega (arith, c.in_ok-new.ensures.size)
 
 pub new_names-requires : goal.new_names-requires
 new_names-requires c =
-    let each = rw c.words-words.ensures.words at c.in_ok-new.ensures.table.each in
-    rw (c.roots.ensures.roots, c.as_slice-table.ensures.value)
-    (AreNames-lawful c.args.image.now c.in_ok-new.new.table.items c.heads-heads.ensures.lawful each c.args.image.now.roots c.heads-heads.ensures.lawful.roots)
+    let each = rw c.words-words.ensures.words at c.in_ok-new.ensures.ranks.each in
+    rw c.roots.ensures.roots
+    (AreNames-lawful c.args.image.now c.in_ok-new.new.ranks c.heads-heads.ensures.lawful each c.args.image.now.roots c.heads-heads.ensures.lawful.roots)
 
 pub returns : goal.returns
 returns c =
@@ -35,10 +35,9 @@ returns c =
     rw (c.format-format.ensures.format, c.words-words.ensures.words, c.heads-heads.ensures.heads) at c.in_ok-new.ensures in
     record {
       lawful = c.heads-heads.ensures.lawful;
-      table = c.in_ok-new.new.table.items;
-      is_table = new.table;
-      words = rw (c.format-format.ensures.format, c.words-words.ensures.words, c.heads-heads.ensures.heads, c.as_slice-table.ensures.value) at c.in_ok-moved.ensures;
-      roots = rw (c.roots.ensures.roots, c.as_slice-table.ensures.value) at c.in_ok-roots.ensures;
+      ranks = c.in_ok-new.new.ranks;
+      are_live = new.ranks;
+      words = rw (c.format-format.ensures.format, c.words-words.ensures.words, c.heads-heads.ensures.heads) at c.in_ok-moved.ensures;
+      roots = rw c.roots.ensures.roots at c.in_ok-roots.ensures;
       heads = new.heads;
-      index = new.index;
     }

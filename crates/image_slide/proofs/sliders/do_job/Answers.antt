@@ -11,6 +11,6 @@ returns-then-first-end-clause-does c =
 
 pub returns-clause-slid : goal.returns-clause-slid
 returns-clause-slid c =
-    let P = IsSlid c.args.image.now c.args.marks.now c.args.table.now in
+    let P = IsSlid c.args.image.now c.args.marks.now c.args.ranks.now in
     All-same P c.push_reserved.new.self.items _ c.push_reserved.ensures.items
     (All-push P c.args.parts.now.items c.in_ok-part.part c.requires.slid c.in_ok-part.ensures.slid)

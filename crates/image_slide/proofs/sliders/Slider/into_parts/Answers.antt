@@ -7,4 +7,4 @@ pub returns-clause-accounts : goal.returns-clause-accounts
 returns-clause-accounts c =
     let s = c.self.inside in
     subst Accounts c.self.view_is
-    (accounts_so s.image.now s.marks.now s.table.now s.whole (map (λ part. part.piece) s.parts.items) s.at s.came.items s.kept.items s.done.items _ c.self.invariant.account)
+    (accounts_so s.image.now s.marks.now s.ranks.now s.whole (map (λ part. part.piece) s.parts.items) s.at s.came.items s.kept.items s.done.items _ c.self.invariant.account)

@@ -16,8 +16,8 @@ invariant_of-self c =
       at = rw e.came i.at;
       kept = rw e.kept i.kept;
       space = omega (arith, i.space, e.capacity);
-      table = i.table;
-      slid = All-same (IsSlid c.self.inside.image.now c.self.inside.marks.now c.self.inside.table.now) _ _ e.parts i.slid;
+      ranks = i.ranks;
+      slid = All-same (IsSlid c.self.inside.image.now c.self.inside.marks.now c.self.inside.ranks.now) _ _ e.parts i.slid;
       account = λ p. rw (e.parts, e.came, e.done) (i.account p);
     }
 
@@ -28,7 +28,7 @@ invariant_of-self-in_err-do_job c =
       at = rw (f.1, e.came) i.at;
       kept = rw e.kept i.kept;
       space = omega (arith, i.space, e.capacity);
-      table = i.table;
+      ranks = i.ranks;
       slid = c.do_job.ensures.slid;
       account = λ p. rw (f.0, f.1, e.parts, e.came, e.done) (i.account p);
     }
@@ -56,7 +56,7 @@ invariant_of-self-2 c =
         c.in_ok-make_room.ensures.kept_room,
         c.make_room.new.kept.ok.0,
       );
-      table = i.table;
+      ranks = i.ranks;
       slid = c.do_job.ensures.slid;
       account = λ p. rw (c.push_reserved.ensures.items, e.done)
           (job_done p (times p (pieces_first s.image.now s.whole)) _ _ s.came.items _ s.done.items c.args.item d (i.account p));
