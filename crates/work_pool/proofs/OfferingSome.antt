@@ -251,8 +251,8 @@ module _ (x : BayUse) (leads : ℕ → ℕ → Type 0) (before now : Worker) (wa
   few_stored : MOST_ITEMS * before.caller.draws + length (stored run) ≤ MOST_ITEMS * now.caller.draws
   few_stored = elim (cases_eq now.caller.draws before.caller.draws) [
     | inl same ↦
-      let nil = ap length (p.gains.drawn same) in
-      omega (arith, nil, length-append p.stored p.refused, pushes_many replies.Done (take answer.shared items) p.stored p.are_stored, ap length run_stored, same)
+        let nil = ap length (p.gains.drawn same) in
+        omega (arith, nil, length-append p.stored p.refused, pushes_many replies.Done (take answer.shared items) p.stored p.are_stored, ap length run_stored, same)
     | inr more ↦ omega (arith, more, p.gains.draws, many_stored, p.few, most)
   ]
 

@@ -180,7 +180,7 @@ module _ (x : BayUse) (items : List ℕ) (stored : ℕ) (stop : Stop) (before no
       let t = p.turn in let c = before.who in let h = p.draws.history in let r = p.rank in
       let s = take stored items in let f = refused_of stop (drop stored items) in
       let same_own : before.user.mine ≡ own c h = before_pushes t c r s f before.user.mine (own c h)
-          (sym a.mine ∙ (a.all_mine ∙ (ap (own c) a.seen ∙ own_pushes t c r s f h))) in
+      (sym a.mine ∙ (a.all_mine ∙ (ap (own c) a.seen ∙ own_pushes t c r s f h))) in
       record {
         site = ap (λ (q : Caller BayView). q.site) p.same;
         who = same_who;
@@ -289,7 +289,7 @@ module _ (x : BayUse) (items : List ℕ) (before : Caller BayView) (mine : befor
   several_tells now answer p =
       let whole = last_hands p.spilled p.part answer.stop p.mid now p.answered (hands_spilled p.again p.spilled p.mid p.run) p.last in
       let hands : Hands x (take answer.shared items) (refused_of answer.stop (drop answer.shared items)) before now =
-          subst (λ n. Hands x (take n items) (refused_of answer.stop (drop n items)) before now) (sym p.stored) whole in
+      subst (λ n. Hands x (take n items) (refused_of answer.stop (drop n items)) before now) (sym p.stored) whole in
       record {
         call = p;
         few = p.few;

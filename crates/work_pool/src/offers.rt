@@ -5,9 +5,9 @@ ghost use Rattle.work_pool.specs.Running.{PutsBy, OffersNext, OffersAll};
 
 use crate::drives::Drive;
 use crate::hands::Hand;
+use crate::offers_some::offer_some;
 use crate::pools::{Pool, Way};
 use crate::puts::Put;
-use crate::offers_some::offer_some;
 use crate::works::Work;
 use std::sync::Wait;
 

@@ -42,8 +42,8 @@ returns-in-None-clause-advances g c =
     let same = rw c.in-None.is at c.spared.ensures.unkeeps in
     let o = c.offer_all-hand.ensures in let n = c.next_step-hand.ensures in let k = c.spared.ensures in
     let offers = offers_weaker c.args.pool.now.usage c.args.pool.now.way (g.W.Work.leads c.args.work.now) (g.W.Work.leads c.spared.new.work) (λ y x. (k.leads y x).0)
-        c.args.hand c.offer_all-hand.result.0 (g.W.Work.stands c.args.work.now) (g.W.Work.stands c.spared.new.work) (g.W.Work.stands c.offer_all-hand.new.work)
-        c.args.drive c.offer_all-hand.result.1 c.who-who.ensures.holds c.requires.room same o.offers in
+    c.args.hand c.offer_all-hand.result.0 (g.W.Work.stands c.args.work.now) (g.W.Work.stands c.spared.new.work) (g.W.Work.stands c.offer_all-hand.new.work)
+    c.args.drive c.offer_all-hand.result.1 c.who-who.ensures.holds c.requires.room same o.offers in
     offers_advance c.args.pool.now.usage c.args.pool.now.way (g.W.Work.leads c.args.work.now) (g.W.Work.leads c.offer_all-hand.new.work)
     (λ y x l. (k.leads y x).0 ((o.leads y x).0 l))
     c.args.hand c.offer_all-hand.result.0 c.next_step-hand.result.0 (g.W.Work.stands c.args.work.now) (g.W.Work.stands c.offer_all-hand.new.work) (g.W.Work.stands c.next_step-hand.new.work)

@@ -31,8 +31,8 @@ loop-preserved g c =
     let steps = rw c.in-Handled.is at n.advances in
     record {
       so_far = step_more c.args.pool.now.usage c.args.pool.now.way (g.W.Work.leads c.args.work.now) (g.W.Work.leads c.loop.work) (λ y x. (c.loop.invariant.leads y x).0)
-    c.args.hand c.loop.hand c.advance-after.result.0 (g.W.Work.stands c.args.work.now) (g.W.Work.stands c.loop.work) (g.W.Work.stands c.advance-after.new.work)
-    c.loop.drive c.advance-after.result.2 c.loop.invariant.so_far steps;
+          c.args.hand c.loop.hand c.advance-after.result.0 (g.W.Work.stands c.args.work.now) (g.W.Work.stands c.loop.work) (g.W.Work.stands c.advance-after.new.work)
+          c.loop.drive c.advance-after.result.2 c.loop.invariant.so_far steps;
       own = n.same_bay ∙ h.own;
       share = inl steps.held;
       leads = λ y x. (λ l. (h.leads y x).0 ((n.leads y x).0 l), λ l. (n.leads y x).1 ((h.leads y x).1 l));

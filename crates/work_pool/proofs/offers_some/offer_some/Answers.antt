@@ -14,7 +14,7 @@ returns-clause-offers g c =
     let many = length-take count room in
     let back = take_rest (take count room) answer.shared in
     let kept : c.saturating_add.result ≡ min (c.args.drive.kept + length (drop answer.shared (take count room))) (2 ^ 64 - 1) =
-        omega (arith, c.saturating_add.ensures, ap length back) in
+    omega (arith, c.saturating_add.ensures, ap length back) in
     some_offered c.args.pool.now.usage (g.W.Work.leads c.args.work.now) c.args.hand c.put_some-hand.result.0
     (g.W.Work.stands c.args.work.now) mid is (take count room) answer
     c.who-who.ensures.holds c.take_up-count.ensures.gives (subst (λ l. KeepsSome l mid is) back c.keep_all.ensures.keeps) c.requires.room
