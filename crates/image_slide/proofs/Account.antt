@@ -135,7 +135,7 @@ first_account p heap true few =
 pub slid_of : (heap : Heap) (marks : List Bool) (ranks : List Bool) (m : Sliding) (parts : List Part) → IsOf heap marks ranks m
     → All (IsSlid m.heap m.marks m.ranks) parts → All (IsSlid heap marks ranks) parts
 slid_of heap marks ranks m parts of all =
-    subst (λ (z : Heap × List Bool × List ℕ). All (IsSlid z.0 z.1 z.2) parts) (λ k. (of.0 k, of.1 k, of.2 k)) all
+    subst (λ (z : Heap × List Bool × List Bool). All (IsSlid z.0 z.1 z.2) parts) (λ k. (of.0 k, of.1 k, of.2 k)) all
 
 -- new sliders are new works
 pub sliders_new : (heap : Heap) (marks : List Bool) (ranks : List Bool) (many : ℕ) (works : List Sliding)
