@@ -4,7 +4,7 @@ ghost use Rattle.room_script.specs.Trials.{IsBlocks};
 
 use crate::meetings::Meeting;
 use crate::words::Blocks;
-use bay_crew::{Turn, handfuls};
+use bay_crew::{Turn, timed_handfuls};
 use std::alloc::Global;
 use std::io;
 use std::io::{Eprint, ErrorKind};
@@ -64,7 +64,7 @@ fn time<R: Threads + Wait + Sync + Clock + Eprint>(
 {
     let meeting = Meeting::new(rt, threads)?;
     let part = items.checked_div(threads).unwrap_or(0);
-    let calls = handfuls(
+    let calls = timed_handfuls(
         rt,
         alloc,
         blocks.layout,
@@ -78,7 +78,11 @@ fn time<R: Threads + Wait + Sync + Clock + Eprint>(
         return Err(io::Error::from(ErrorKind::TimedOut));
     };
     let (whole, tenth) = tenths(taken, calls);
-    let name = if turn == Turn::Puts { "handfuls" } else { "mixed" };
+    let name = if turn == Turn::Puts {
+        "handfuls"
+    } else {
+        "mixed"
+    };
     eprintln!(rt; "{name} threads {threads} run 32 ns_per_op {whole}.{tenth}")
 }
 

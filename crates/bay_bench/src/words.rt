@@ -78,7 +78,11 @@ fn usual_blocks(name: &str) -> Blocks
 {
     Blocks {
         layout: Layout::Split,
-        count: if turn_of(name).is_some() { MOST_BLOCKS } else { 64 },
+        count: if turn_of(name).is_some() {
+            MOST_BLOCKS
+        } else {
+            64
+        },
     }
 }
 

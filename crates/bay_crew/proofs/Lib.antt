@@ -1,3 +1,3 @@
-pub mod Handfuls
+pub mod PuttingSome
 pub mod Ranges
 pub mod Timing

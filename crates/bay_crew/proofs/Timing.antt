@@ -73,7 +73,7 @@ by_op Pop again r = r
 by_op Enq again r = r
 by_op Deq again r = r
 
-never_again : (op : Op) (layout : Layout) (again : ℕ) → layout ≡ Split → MayRepeat op layout again → again ≡ 0
+pub never_again : (op : Op) (layout : Layout) (again : ℕ) → layout ≡ Split → MayRepeat op layout again → again ≡ 0
 never_again op layout again split may = by_op op again (subst (λ l. MayRepeat op l again) split may)
 
 -- a call with an entry

@@ -17,10 +17,10 @@ HadEntries Split calls made = made ≡ calls
 HadEntries Paged calls made = made ≤ calls
 
 -- a pass of the set-up that may put an item, and where no call overflows has so many draws left
-pub record CanCall (layout : Layout) (site : TableId) (draws : ℕ) (pass : Caller BayView) : Type 0 where
+pub record CanCall (layout : Layout) (site : TableId) (left : ℕ) (pass : Caller BayView) : Type 0 where
   pub own : pass.site ≡ site
   pub share : 1 ≤ pass.user.held
-  pub draws : layout ≡ Split → pass.draws + draws ≤ pass.limit
+  pub draws : layout ≡ Split → pass.draws + left ≤ pass.limit
 
 -- the caller made so many calls by so many draws, and counted those with an entry: where no call
 -- overflows, all

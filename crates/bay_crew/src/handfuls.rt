@@ -100,7 +100,7 @@ fn all_turns<R: Threads + Wait + Sync, W: Watch + Sync>(
     turn: Turn,
     watch: &W,
 ) -> Result<Vec<u64>, AllocError>
-    requires { (i : ℕ) (p : _) → i < vec_len passes → p ≡ slice_index_or passes.items i p → CanCall bay.now.usage.layout bay.now.site (times * draws_in turn) p }
+    requires can { (i : ℕ) (p : _) → i < vec_len passes → p ≡ slice_index_or passes.items i p → CanCall bay.now.usage.layout bay.now.site (times * draws_in turn) p }
     ensures len { IfOk result (λ made. vec_len made ≡ vec_len passes) }
     ensures each { IfOk result (λ made. All (λ calls. HadEntries bay.now.usage.layout (times * calls_in turn) calls) made.items) }
 {
@@ -121,7 +121,7 @@ fn all_turns<R: Threads + Wait + Sync, W: Watch + Sync>(
 ///
 /// The error is want of memory alone. It waits for the callers, each of which runs in a thread of its
 /// own where one can be made.
-pub fn handfuls<R: Threads + Wait + Sync, W: Watch + Sync>(
+pub fn timed_handfuls<R: Threads + Wait + Sync, W: Watch + Sync>(
     rt: &R,
     alloc: Global,
     layout: Layout,

@@ -9,7 +9,7 @@ mod timings;
 mod watches;
 
 pub use crews::crew;
-pub use handfuls::{Turn, handfuls};
+pub use handfuls::{Turn, timed_handfuls};
 pub use mixes::Mix;
 pub use timings::timed;
 pub use watches::Watch;

@@ -1,5 +1,5 @@
 //! Two callers in threads.
-use crate::{Mix, Turn, Watch, crew, handfuls, timed};
+use crate::{Mix, Turn, Watch, crew, timed, timed_handfuls};
 use bay_core::Layout;
 use room_history::{check, merge};
 use std::sync::atomic::{AtomicU64, Ordering};
@@ -55,8 +55,14 @@ fn callers_come_back_from_handfuls(rt: HostRuntime) -> Result<(), Fail> {
     };
     for layout in [Layout::Split, Layout::Paged] {
         for (turn, calls) in [(Turn::Puts, 256), (Turn::PutsAndTakes, 512)] {
-            assert_eq!(rt; handfuls(&rt, rt.alloc(), layout, 8, 2, 140, turn, &counts)?, calls);
-            assert_eq!(rt; handfuls(&rt, rt.alloc(), layout, 8, 2, 31, turn, &counts)?, 0);
+            assert_eq!(rt;
+                timed_handfuls(&rt, rt.alloc(), layout, 8, 2, 140, turn, &counts)?,
+                calls
+            );
+            assert_eq!(rt;
+                timed_handfuls(&rt, rt.alloc(), layout, 8, 2, 31, turn, &counts)?,
+                0
+            );
         }
     }
     assert_eq!(rt; counts.begun.load(Ordering::SeqCst), 16);

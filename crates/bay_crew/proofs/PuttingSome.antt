@@ -1,5 +1,5 @@
 -- Handfuls that are timed.
-use Rattle.std.proofs.Common.{◌≡◌, ◌≢◌, ℕ, ◌+◌, ◌≤◌, List, length, refl, ap, arith}
+use Rattle.std.proofs.Common.{◌≡◌, ◌≢◌, ℕ, ◌+◌, ◌*◌, ◌≤◌, List, length, refl, ap, arith}
 use Rattle.atomic_table.specs.Seated.{TableId}
 use Rattle.room_gate.specs.Shows.{Caller}
 use Rattle.bay_rule.specs.declared.bay_use.BayUse.{BayUse}
@@ -11,7 +11,9 @@ use Rattle.bay_store.specs.declared.receipts.Stop.TheVariants.{All, Full, Overfl
 use Rattle.bay_store.specs.Sharing.{calling}
 use Rattle.bay_store.specs.Handfuls.{PutsOnce, PutsSome, draws_of}
 use Rattle.bay_crew.specs.Timings.{CanCall, Repeats}
-use Rattle.bay_crew.specs.Handfuls.{answered_of}
+use Rattle.bay_crew.specs.declared.handfuls.Turn.{Turn}
+use Rattle.bay_crew.specs.declared.handfuls.Turn.TheVariants.{Puts, PutsAndTakes}
+use Rattle.bay_crew.specs.Handfuls.{answered_of, draws_in, calls_in}
 use Rattle.bay_crew.proofs.Timing.{never_again}
 
 -- no more items have an entry than there are
@@ -37,8 +39,8 @@ all_answered x rest Spent stored count again part before mid now none last not s
   none,
   can,
   last.0,
-  ap (λ (p : Caller BayView). p.draws) last.1.1,
-  ap (λ (p : Caller BayView). p.limit) last.1.1,
+  ap (λ (p : Caller BayView). p.draws) last.2,
+  ap (λ (p : Caller BayView). p.limit) last.2,
   ap (λ (p : Caller BayView). p.draws) same,
   ap (λ (p : Caller BayView). p.limit) same,
 ))
@@ -55,3 +57,12 @@ put_some x items site before now h can c share = record {
   all = λ split. all_answered x _ h.stop h.stored (length items) c.again c.part before c.mid now
       (never_again Push x.layout c.again split c.repeats) c.last c.answered c.same (can.draws split);
 }
+
+-- the draws of so many turns, and their puts and takes
+pub few_draws : (turn : Turn) (k : ℕ) → k * draws_in turn ≤ 33 * k
+few_draws Puts k = omega arith
+few_draws PutsAndTakes k = omega arith
+
+pub few_calls : (turn : Turn) (k : ℕ) → k * calls_in turn ≤ 64 * k
+few_calls Puts k = omega arith
+few_calls PutsAndTakes k = omega arith
