@@ -6,12 +6,21 @@
 //! the entries of all calls and what the bay had left; there are at most 64 callers. After these words
 //! two more may stand, `split` or `paged` and the number of blocks; without them it is `split 64`. With
 //! no word it makes small histories and checks them.
+//!
+//! With the words `handfuls N` it writes what an item takes where all threads together put N items on the
+//! stack by handfuls of 32, with 1, 2 and 4 threads, and none is taken; with `mixed N` each thread takes
+//! 32 items one by one after each handful, and a put of an item is one operation and a take another. The
+//! clock starts when the bay is set up and all threads have come, and stops when all are done. N is at
+//! most 32 for each block, and 524288 where it is left out; further words are as above, but that without
+//! them it is `split 16384`.
 #![tactic(auto)]
 
 ghost use Rattle.std.specs.Prelude.{IfOk, IfSome};
 ghost use Rattle.bay_bench.specs.Words.{HasBay};
 
+mod handfuls;
 mod histories;
+mod meetings;
 mod timing;
 mod words;
 
@@ -39,6 +48,9 @@ fn main(rt: HostRuntime) -> ExitCode {
         }
         Ok(Some(Command::Time(mix, items, threads, blocks))) => {
             timing::time_all(&rt, rt.alloc(), blocks, mix, items, threads)
+        }
+        Ok(Some(Command::Handfuls(turn, items, threads, blocks))) => {
+            handfuls::time_all(&rt, rt.alloc(), blocks, turn, items, threads)
         }
         Ok(Some(Command::Try)) => histories::try_histories(&rt, rt.alloc()),
         Ok(None) => return refused(&rt),

@@ -4,10 +4,13 @@ ghost use Rattle.room_script.specs.Trials.{IsBlocks};
 ghost use Rattle.bay_bench.specs.Words.{HasBay};
 
 use bay_core::{Layout, MOST_BLOCKS};
-use bay_crew::Mix;
+use bay_crew::{Mix, Turn};
 
 /// The most threads.
 const MOST_THREADS: u32 = 64;
+
+/// How many items all threads put by handfuls, where the words say no number.
+const USUAL_ITEMS: u32 = 524_288;
 
 /// A layout and a number of blocks that it may have.
 #[derive(Clone, Copy)]
@@ -26,6 +29,9 @@ pub enum Command {
     /// To time calls on a list, of which each thread puts so many items and takes as many, with so many
     /// threads, up to 64, or else with the usual numbers of them.
     Time(Mix, u32, Option<u32>, Blocks),
+    /// To time handfuls, by which all threads together put so many items, at most 32 for each block, with
+    /// so many threads, up to 64, or else with the usual numbers of them.
+    Handfuls(Turn, u32, Option<u32>, Blocks),
     /// To check small histories.
     Try,
 }
@@ -37,16 +43,25 @@ pub fn named_command(words: &[String]) -> Option<Command>
 {
     match words {
         [] => Some(Command::Try),
-        [list, items] => time_of(list.as_str(), items.as_str(), None, usual()),
-        [list, items, layout, count] => time_of(
-            list.as_str(),
+        [name] => usual_handfuls(name.as_str()),
+        [name, items] => time_of(
+            name.as_str(),
+            items.as_str(),
+            None,
+            usual_blocks(name.as_str()),
+        ),
+        [name, items, layout, count] => time_of(
+            name.as_str(),
             items.as_str(),
             None,
             blocks_of(layout.as_str(), count.as_str())?,
         ),
-        [name, first, second] => {
-            three_words(name.as_str(), first.as_str(), second.as_str(), usual())
-        }
+        [name, first, second] => three_words(
+            name.as_str(),
+            first.as_str(),
+            second.as_str(),
+            usual_blocks(name.as_str()),
+        ),
         [name, first, second, layout, count] => three_words(
             name.as_str(),
             first.as_str(),
@@ -57,13 +72,17 @@ pub fn named_command(words: &[String]) -> Option<Command>
     }
 }
 
-// The blocks where the words name none.
-fn usual() -> Blocks
+// The blocks where the words name none: as many as hold all items where these are put by handfuls.
+fn usual_blocks(name: &str) -> Blocks
     ensures { IsBlocks result.layout result.count }
 {
     Blocks {
         layout: Layout::Split,
-        count: 64,
+        count: if turn_of(name).is_some() {
+            MOST_BLOCKS
+        } else {
+            64
+        },
     }
 }
 
@@ -95,18 +114,46 @@ fn three_words(name: &str, first: &str, second: &str, blocks: Blocks) -> Option<
     }
 }
 
-// The command to time calls on a list.
-fn time_of(list: &str, items: &str, threads: Option<u32>, blocks: Blocks) -> Option<Command>
+// The command to time calls on a list, or handfuls.
+fn time_of(name: &str, items: &str, threads: Option<u32>, blocks: Blocks) -> Option<Command>
     requires blocks { IsBlocks blocks.layout blocks.count }
     requires threads { IfSome threads (λ number. number ≤ 64) }
     ensures { IfSome result HasBay }
 {
-    let mix = match list {
-        "stack" => Mix::Stack,
-        "queue" => Mix::Queue,
-        _ => return None,
-    };
-    Some(Command::Time(mix, number(items)?, threads, blocks))
+    let items = number(items)?;
+    match name {
+        "stack" => Some(Command::Time(Mix::Stack, items, threads, blocks)),
+        "queue" => Some(Command::Time(Mix::Queue, items, threads, blocks)),
+        _ => handfuls_of(turn_of(name)?, items, threads, blocks),
+    }
+}
+
+// What the callers do by turns, where the word names it.
+fn turn_of(name: &str) -> Option<Turn> {
+    match name {
+        "handfuls" => Some(Turn::Puts),
+        "mixed" => Some(Turn::PutsAndTakes),
+        _ => None,
+    }
+}
+
+// The command to time handfuls, where the blocks hold all items.
+fn handfuls_of(turn: Turn, items: u32, threads: Option<u32>, blocks: Blocks) -> Option<Command>
+    requires blocks { IsBlocks blocks.layout blocks.count }
+    requires threads { IfSome threads (λ number. number ≤ 64) }
+    ensures { IfSome result HasBay }
+{
+    if items > 32 * blocks.count {
+        return None;
+    }
+    Some(Command::Handfuls(turn, items, threads, blocks))
+}
+
+// The command to time the usual number of items by handfuls.
+fn usual_handfuls(name: &str) -> Option<Command>
+    ensures { IfSome result HasBay }
+{
+    handfuls_of(turn_of(name)?, USUAL_ITEMS, None, usual_blocks(name))
 }
 
 // The number of threads that a word names.

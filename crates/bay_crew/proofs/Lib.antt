@@ -1,2 +1,3 @@
+pub mod PuttingSome
 pub mod Ranges
 pub mod Timing

@@ -34,7 +34,7 @@ ready layout site limit callers calls passes are few i p h is =
 
 -- no call
 pub repeats_none : (layout : Layout) (site : TableId) (calls : ℕ) (p : Caller BayView) → CanCall layout site calls p
-    → Repeats layout 0 p p 0
+    → Repeats layout 0 0 p p 0
 repeats_none layout site calls p can = record {
   site = refl;
   limit = refl;
@@ -44,9 +44,9 @@ repeats_none layout site calls p can = record {
 }
 
 -- calls, and calls after them
-pub repeats_on : (layout : Layout) (a b c : Caller BayView) (n k made more : ℕ) → Repeats layout n a b made
-    → Repeats layout k b c more → Repeats layout (n + k) a c (made + more)
-repeats_on layout a b c n k made more one two = record {
+pub repeats_on : (layout : Layout) (a b c : Caller BayView) (n k u v made more : ℕ) → Repeats layout n u a b made
+    → Repeats layout k v b c more → Repeats layout (n + k) (u + v) a c (made + more)
+repeats_on layout a b c n k u v made more one two = record {
   site = two.site ∙ one.site;
   limit = two.limit ∙ one.limit;
   share = two.share;
@@ -58,9 +58,9 @@ repeats_on layout a b c n k made more one two = record {
 }
 
 -- more calls may follow
-pub can_go_on : (layout : Layout) (site : TableId) (before now : Caller BayView) (all n k made : ℕ)
-    → CanCall layout site all before → Repeats layout n before now made → n + k ≤ all → CanCall layout site k now
-can_go_on layout site before now all n k made can did near = record {
+pub can_go_on : (layout : Layout) (site : TableId) (before now : Caller BayView) (all n k u made : ℕ)
+    → CanCall layout site all before → Repeats layout n u before now made → n + k ≤ all → CanCall layout site k now
+can_go_on layout site before now all n k u made can did near = record {
   own = did.site ∙ can.own;
   share = did.share;
   draws = λ split. omega (arith, can.draws split, (did.all split).1, did.limit, near);
@@ -73,13 +73,13 @@ by_op Pop again r = r
 by_op Enq again r = r
 by_op Deq again r = r
 
-never_again : (op : Op) (layout : Layout) (again : ℕ) → layout ≡ Split → MayRepeat op layout again → again ≡ 0
+pub never_again : (op : Op) (layout : Layout) (again : ℕ) → layout ≡ Split → MayRepeat op layout again → again ≡ 0
 never_again op layout again split may = by_op op again (subst (λ l. MayRepeat op l again) split may)
 
 -- a call with an entry
 pub called_once : (x : BayUse) (op : Op) (item : ℕ) (site : TableId) (before now : Caller BayView) (r : Receipt)
     → CanCall x.layout site 1 before → Calls x op item before now r → 1 ≤ now.user.held
-    → Repeats x.layout 1 before now 1
+    → Repeats x.layout 1 1 before now 1
 called_once x op item site before now r can c share = record {
   site = ap (λ (p : Caller BayView). p.site) c.same;
   limit = ap (λ (p : Caller BayView). p.limit) c.same;
@@ -94,7 +94,7 @@ called_once x op item site before now r can c share = record {
 -- a call for which no draw was left
 pub stayed_out : (x : BayUse) (op : Op) (site : TableId) (before now : Caller BayView)
     → CanCall x.layout site 1 before → StaysOut x op before now → 1 ≤ now.user.held
-    → Repeats x.layout 1 before now 0
+    → Repeats x.layout 1 1 before now 0
 stayed_out x op site before now can out share =
     let same = out.tries.same in
     record {
@@ -137,16 +137,22 @@ at_most : (layout : Layout) (calls made : ℕ) → HadEntries layout calls made 
 at_most Split calls made had = omega (arith, had)
 at_most Paged calls made had = had
 
--- what all callers made
+-- what all callers made, each of which was to make so many
+pub all_calls : (layout : Layout) (callers n : ℕ) (numbers made : List ℕ) → numbers ≡ made
+    → length made ≡ callers → All (HadEntries layout n) made
+    → HadEntries layout (callers * n) (sum_by (λ m. m) numbers)
+all_calls layout callers n numbers made read long each =
+    subst (λ ns. HadEntries layout (callers * n) (sum_by (λ m. m) ns)) (sym read)
+    (subst (λ k. HadEntries layout (k * n) (sum_by (λ m. m) made)) long
+    (sum_of_all layout n made (recursion_from_All (HadEntries layout n) made each)))
+
+-- the same of whole runs
 pub all_made : (layout : Layout) (callers items run : ℕ) (numbers made : List ℕ) → numbers ≡ made
     → length made ≡ callers → All (HadEntries layout (items / run * (2 * run))) made
     → HadEntries layout (callers * calls_of items run) (sum_by (λ m. m) numbers)
 all_made layout callers items run numbers made read long each =
-    subst (λ ns. HadEntries layout (callers * calls_of items run) (sum_by (λ m. m) ns)) (sym read)
-    (subst (λ n. HadEntries layout (n * calls_of items run) (sum_by (λ m. m) made)) long
-    (sum_of_all layout (calls_of items run) made
-    (recursion_from_All (HadEntries layout (calls_of items run)) made
-    (subst (λ n. All (HadEntries layout n) made) (by_runs items run) each))))
+    all_calls layout callers (calls_of items run) numbers made read long
+    (subst (λ n. All (HadEntries layout n) made) (by_runs items run) each)
 
 pub few_made : (layout : Layout) (calls made : ℕ) → HadEntries layout calls made → calls < 2 ^ 64 → made < 2 ^ 64
 few_made layout calls made had few = omega (arith, at_most layout calls made had, few)

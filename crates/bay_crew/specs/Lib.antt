@@ -1,2 +1,3 @@
+pub mod Handfuls
 pub mod Mixes
 pub mod Timings

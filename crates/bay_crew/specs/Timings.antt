@@ -16,16 +16,17 @@ abbrev pub HadEntries : Layout → ℕ → ℕ → Type 0
 HadEntries Split calls made = made ≡ calls
 HadEntries Paged calls made = made ≤ calls
 
--- a pass of the set-up that may put an item, and where each call makes one draw has as many as calls
-pub record CanCall (layout : Layout) (site : TableId) (calls : ℕ) (pass : Caller BayView) : Type 0 where
+-- a pass of the set-up that may put an item, and where no call overflows has so many draws left
+pub record CanCall (layout : Layout) (site : TableId) (left : ℕ) (pass : Caller BayView) : Type 0 where
   pub own : pass.site ≡ site
   pub share : 1 ≤ pass.user.held
-  pub draws : layout ≡ Split → pass.draws + calls ≤ pass.limit
+  pub draws : layout ≡ Split → pass.draws + left ≤ pass.limit
 
--- the caller made so many calls, and counted those with an entry: where each makes one draw, all
-pub record Repeats (layout : Layout) (calls : ℕ) (before now : Caller BayView) (made : ℕ) : Type 0 where
+-- the caller made so many calls by so many draws, and counted those with an entry: where no call
+-- overflows, all
+pub record Repeats (layout : Layout) (draws calls : ℕ) (before now : Caller BayView) (made : ℕ) : Type 0 where
   pub site : now.site ≡ before.site
   pub limit : now.limit ≡ before.limit
   pub share : 1 ≤ now.user.held
   pub few : made ≤ calls
-  pub all : layout ≡ Split → (made ≡ calls) × (now.draws ≡ before.draws + calls)
+  pub all : layout ≡ Split → (made ≡ calls) × (now.draws ≡ before.draws + draws)

@@ -2,13 +2,17 @@
 #![tactic(auto)]
 
 mod crews;
+mod handfuls;
 mod mixes;
 mod scripts;
 mod timings;
+mod watches;
 
 pub use crews::crew;
+pub use handfuls::{Turn, timed_handfuls};
 pub use mixes::Mix;
 pub use timings::timed;
+pub use watches::Watch;
 
 #[cfg(test)]
 mod tests;

@@ -1,7 +1,8 @@
 //! Two callers in threads.
-use crate::{Mix, crew, timed};
+use crate::{Mix, Turn, Watch, crew, timed, timed_handfuls};
 use bay_core::Layout;
 use room_history::{check, merge};
+use std::sync::atomic::{AtomicU64, Ordering};
 use std::test::Fail;
 
 #[test]
@@ -26,5 +27,45 @@ fn callers_come_back_from_each_list(rt: HostRuntime) -> Result<(), Fail> {
             assert_eq!(rt; timed(&rt, rt.alloc(), layout, 2, 2, 3, 4, mix)?, 0);
         }
     }
+    Ok(())
+}
+
+// A watch that counts who began and who ended.
+#[derive(Drop)]
+struct Counts {
+    begun: AtomicU64,
+    ended: AtomicU64,
+}
+
+impl Watch for Counts {
+    fn begins(&self) {
+        self.begun.fetch_add(1, Ordering::SeqCst);
+    }
+
+    fn ends(&self) {
+        self.ended.fetch_add(1, Ordering::SeqCst);
+    }
+}
+
+#[test]
+fn callers_come_back_from_handfuls(rt: HostRuntime) -> Result<(), Fail> {
+    let counts = Counts {
+        begun: AtomicU64::new(0),
+        ended: AtomicU64::new(0),
+    };
+    for layout in [Layout::Split, Layout::Paged] {
+        for (turn, calls) in [(Turn::Puts, 256), (Turn::PutsAndTakes, 512)] {
+            assert_eq!(rt;
+                timed_handfuls(&rt, rt.alloc(), layout, 8, 2, 140, turn, &counts)?,
+                calls
+            );
+            assert_eq!(rt;
+                timed_handfuls(&rt, rt.alloc(), layout, 8, 2, 31, turn, &counts)?,
+                0
+            );
+        }
+    }
+    assert_eq!(rt; counts.begun.load(Ordering::SeqCst), 16);
+    assert_eq!(rt; counts.ended.load(Ordering::SeqCst), 16);
     Ok(())
 }

@@ -19,7 +19,7 @@ use std::thread::Threads;
 // Makes one call, and answers how many it made: 1 if it was answered with an entry, and else 0.
 fn call_once<R: Wait>(rt: &R, bay: &Bay, pass: BayPass, line: Line) -> (BayPass, u64)
     requires { CanCall bay.now.usage.layout bay.now.site 1 pass }
-    ensures { Repeats bay.now.usage.layout 1 pass result.0 result.1 }
+    ensures { Repeats bay.now.usage.layout 1 1 pass result.0 result.1 }
 {
     let (pass, receipt) = call_line(rt, bay, pass, line);
     match receipt {
@@ -30,7 +30,7 @@ fn call_once<R: Wait>(rt: &R, bay: &Bay, pass: BayPass, line: Line) -> (BayPass,
 
 // Calls so many times on one list, with the items 0, 1 and so on where it puts. It answers how many
 // calls were answered with an entry.
-fn repeat<R: Wait>(
+pub(crate) fn repeat<R: Wait>(
     rt: &R,
     bay: &Bay,
     pass: BayPass,
@@ -39,7 +39,7 @@ fn repeat<R: Wait>(
     times: u32,
 ) -> (BayPass, u64)
     requires { CanCall bay.now.usage.layout bay.now.site times pass }
-    ensures { Repeats bay.now.usage.layout times pass result.0 result.1 }
+    ensures { Repeats bay.now.usage.layout times times pass result.0 result.1 }
 {
     let mut pass = pass;
     let mut made = 0;
@@ -54,7 +54,7 @@ fn repeat<R: Wait>(
 // Puts `run` items on a list and takes as many off it.
 fn one_run<R: Wait>(rt: &R, bay: &Bay, pass: BayPass, on_stack: bool, run: u32) -> (BayPass, u64)
     requires { CanCall bay.now.usage.layout bay.now.site (2 * run) pass }
-    ensures { Repeats bay.now.usage.layout (2 * run) pass result.0 result.1 }
+    ensures { Repeats bay.now.usage.layout (2 * run) (2 * run) pass result.0 result.1 }
 {
     let (full, put) = repeat(rt, bay, pass, on_stack, true, run);
     let (emptied, taken) = repeat(rt, bay, full, on_stack, false, run);
@@ -99,7 +99,7 @@ fn all_rounds<R: Threads + Wait + Sync>(
 }
 
 // The sum of the numbers.
-fn total(numbers: &[u64]) -> u64
+pub(crate) fn total(numbers: &[u64]) -> u64
     requires { sum_by (λ n. n) numbers.now < 2 ^ 64 }
     ensures { result ≡ sum_by (λ n. n) numbers.now }
 {
