@@ -2,7 +2,7 @@
 use Rattle.std.proofs.Common.{◌≡◌, ℕ, ◌+◌, ◌-◌, Bool, true, false, List, [], ◌∷◌, ◌++◌, length, take, drop, refl, sym, ap, ◌∙◌, arith}
 use Rattle.std.proofs.lemmas.List.{take_all, take_more}
 use Rattle.bay_core.specs.declared.calls.Op.{Op}
-use Rattle.bay_core.specs.declared.calls.Op.TheVariants.{Push, Pop, Enq, Deq}
+use Rattle.bay_core.specs.declared.calls.Op.TheVariants.{Push, Pop, Enq, Deq, Peek, Sizes}
 use Rattle.bay_core.specs.declared.calls.Reply.{Reply}
 use Rattle.bay_core.specs.declared.calls.Noted.{Noted}
 use Rattle.bay_core.specs.Contents.{Contents, last_of, front_of}
@@ -58,6 +58,9 @@ on_stack Enq x true stack queue taken = still stack
 on_stack Enq x false stack queue taken = still stack
 on_stack Deq x stored stack [] taken = still stack
 on_stack Deq x stored stack (y ∷ ys) taken = still stack
+on_stack Peek x stored [] queue taken = still []
+on_stack Peek x stored (y ∷ ys) queue taken = still (y ∷ ys)
+on_stack Sizes x stored stack queue taken = still stack
 
 pub stack_ledger : (h : List Noted) (n : ℕ)
     → times n (all_put Push (entries h)) ≡ times n (all_taken Pop (entries h)) + times n (after h).stack
@@ -87,6 +90,9 @@ in_queue Enq x true stack queue taken = adds queue x
 in_queue Enq x false stack queue taken = still queue
 in_queue Deq x stored stack [] taken = still []
 in_queue Deq x stored stack (y ∷ ys) taken = takes_first y ys
+in_queue Peek x stored [] queue taken = still queue
+in_queue Peek x stored (y ∷ ys) queue taken = still queue
+in_queue Sizes x stored stack queue taken = still queue
 
 pub queue_ledger : (h : List Noted) (n : ℕ)
     → times n (all_put Enq (entries h)) ≡ times n (all_taken Deq (entries h)) + times n (after h).queue
