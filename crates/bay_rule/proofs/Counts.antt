@@ -1,5 +1,5 @@
 -- No count among the words of a bay is large.
-use Rattle.std.proofs.Common.{ℕ, zero, suc, ◌+◌, ◌^◌, ◌<◌, ◌≤◌, List, length, get_or, arith}
+use Rattle.std.proofs.Common.{ℕ, zero, suc, ◌+◌, ◌^◌, ◌<◌, ◌≤◌, List, length, get_or, sym, subst, inl, inr, arith}
 use Rattle.room_core.specs.Gate.{Gate, Shut, Held, Keyed}
 use Rattle.bay_core.specs.declared.calls.Layout.{Layout}
 use Rattle.bay_core.specs.declared.calls.Layout.TheVariants.{Split, Paged}
@@ -8,12 +8,12 @@ use Rattle.bay_core.specs.Noted.{after}
 use Rattle.bay_core.proofs.Growing.{IsHistory-fits}
 use Rattle.bay_rule.specs.declared.bay_use.BayUse.{BayUse}
 use Rattle.bay_rule.specs.declared.views.BayView.{BayView}
-use Rattle.bay_rule.specs.Words.{queue_end, spare_blocks}
+use Rattle.bay_rule.specs.Words.{looks_of, queue_end, spare_blocks}
 use Rattle.bay_rule.specs.Views.{acted}
-use Rattle.bay_rule.specs.Ends.{QueueHeld, QueueFits}
+use Rattle.bay_rule.specs.Ends.{QueueHeld, QueueFits, LooksFit}
 use Rattle.bay_rule.specs.Accounts.{AccountsIn}
 use Rattle.bay_rule.specs.Shows.{Shows}
-use Rattle.bay_rule.specs.CountLaws.{counts_in}
+use Rattle.bay_rule.specs.CountLaws.{counts_in, IsCount}
 use Rattle.bay_rule.specs.Keeping.Seats.{acts_few}
 use Rattle.bay_rule.proofs.Few.{few_came}
 use Rattle.bay_rule.proofs.TopLow.{top_low}
@@ -38,6 +38,12 @@ ends_near limit spare (Shut t) taken n head tail views h few k = (omega (arith, 
 ends_near limit spare (Held r t ins) taken n head tail views h few k =
     held_near limit spare r t taken n head tail (acted views t) h (omega (arith, acts_few views t, few)) k
 ends_near limit spare (Keyed r t c) taken n head tail views h few k = (k.head_near, k.tail_near)
+
+-- `looks` is at most the callers
+looks_few : (looks : ℕ) (g : Gate) (views : List BayView) (h : List Noted) → length views ≤ 64 → LooksFit looks g views h → looks ≤ 64
+looks_few looks (Shut t) views h few k = omega (arith, k)
+looks_few looks (Held r t ins) views h few k = omega (arith, k.high, acts_few views t, few)
+looks_few looks (Keyed r t c) views h few k = elim k [ inl z ↦ omega (arith, z) | inr z ↦ z.1 ]
 
 module _ (x : BayUse) (h : List Noted) (words : List ℕ) (views : List BayView) (g : Gate) (k : Shows x h words views g) where
   ends : (get_or words 1 0 ≤ (after h).taken + 64) × (get_or words 2 0 ≤ (after h).taken + length (after h).queue + 64)
@@ -69,5 +75,8 @@ module _ (x : BayUse) (h : List Noted) (words : List ℕ) (views : List BayView)
       blocks_few x.layout x.blocks word k.small k.accounts (omega (arith, l, counts_most x.layout)) l
 
 pub counts_few : (x : BayUse) (h : List Noted) (words : List ℕ) (views : List BayView) (gate : Gate) (word : ℕ) → Shows x h words views gate
-    → word < counts_in x.layout → get_or words word 0 < 2 ^ 58
-counts_few x h words views gate word k l = counts_at x h words views gate k word l
+    → IsCount x.layout x.blocks word → get_or words word 0 < 2 ^ 58
+counts_few x h words views gate word k is = elim is [
+  | inl l ↦ counts_at x h words views gate k word l
+  | inr e ↦ subst (λ a. get_or words a 0 < 2 ^ 58) (sym e) (omega (arith, looks_few (get_or words (looks_of x) 0) gate views h k.few k.looks))
+]

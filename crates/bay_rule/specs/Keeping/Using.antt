@@ -1,7 +1,7 @@
 -- For what a caller has used its draws after one more.
 use Rattle.std.proofs.Common.{◌≡◌, ℕ, ◌+◌, ◌*◌, ◌<◌, ◌≤◌, Bool, true, false, List, ◌∷◌, length, ap, arith}
 use Rattle.bay_core.specs.declared.calls.Op.{Op}
-use Rattle.bay_core.specs.declared.calls.Op.TheVariants.{Push, Pop, Enq, Deq}
+use Rattle.bay_core.specs.declared.calls.Op.TheVariants.{Push, Pop, Enq, Deq, Peek, Sizes}
 use Rattle.bay_core.specs.declared.calls.Noted.{Noted}
 use Rattle.bay_core.specs.declared.numbers.TheConstants.{MOST_DRAWS, MOST_ITEMS}
 use Rattle.bay_rule.specs.Spending.{enq_stored, enqs_in}
@@ -13,6 +13,8 @@ stored_few Pop b = omega arith
 stored_few Enq true = omega arith
 stored_few Enq false = omega arith
 stored_few Deq b = omega arith
+stored_few Peek b = omega arith
+stored_few Sizes b = omega arith
 
 -- with as many draws, overflows and calls
 pub used_same : (d d' o o' : ℕ) (mine mine' : List Noted) → d' ≡ d → o' ≡ o → mine' ≡ mine → UsedFor d o mine → UsedFor d' o' mine'
