@@ -18,6 +18,7 @@ use Rattle.bay_rule.specs.Words.{looks_of}
 use Rattle.bay_rule.specs.Newest.{newest_reply}
 use Rattle.bay_rule.specs.Leaving.{note, staged}
 use Rattle.bay_rule.specs.Told.{of_users, Added, look_told}
+use Rattle.bay_rule.specs.Answered.{Answered}
 use Rattle.bay_rule.proofs.CanPeek.{can_peek, can_size}
 use Rattle.bay_rule.proofs.Answering.{finished_call}
 use Rattle.bay_rule.proofs.LooksAnswered.{peeked_empty, sized}
@@ -65,8 +66,8 @@ module _ (x : BayUse) (turn who old : ℕ) (v w : BayView) where
       rank_is = refl;
       finds = tt;
       keeps = (refl, refl);
-      answered = finished_call x.layout x.blocks who v w z _ _ v.frozen v.spare old v.held (Item item) s.aim a
-          (s.view ∙ ap (λ (y : BayView). record y { stage = Resting; aim = s.aim }) e) (sym (ap (λ (y : BayView). newest_reply y.seen) e) ∙ s.reply);
+      answered = subst (λ h. Answered x.layout x.blocks who v z (note turn old who Peek 0 false) (Item item) v.frozen v.spare old h) (omega arith)
+          (finished_call x.layout x.blocks who v w z _ _ v.frozen v.spare old v.held (Item item) s.aim a (s.view ∙ ap (λ (y : BayView). record y { stage = Resting; aim = s.aim }) e) (sym (ap (λ (y : BayView). newest_reply y.seen) e) ∙ s.reply));
     }
 
   -- a look at both lengths: u is the view after the load of `top`, and z that after the load of `head`

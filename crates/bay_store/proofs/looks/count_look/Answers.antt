@@ -17,4 +17,4 @@ pub returns-clause-told : goal.returns-clause-told
 returns-clause-told c =
     let layout = ap (λ (x : BayUse). x.layout) (sym c.usage-2.ensures) ∙ sym c.layout-layout.ensures in
     let blocks = ap (λ (x : BayUse). x.blocks) (sym c.usage-3.ensures) ∙ sym c.blocks-blocks.ensures.value in
-    look_as _ _ _ _ _ _ _ _ _ _ _ _ (sym layout) (sym blocks) c.turn-turn.ensures.value c.add.ensures.told
+    look_as _ _ _ _ _ _ _ _ _ _ _ 0 (sym layout) (sym blocks) c.turn-turn.ensures.value c.add.ensures.told
