@@ -6,5 +6,5 @@ use Rattle.bay_store.proofs.bays.Bay.push_once.Goals as goal
 
 pub returns-in-Ok : goal.returns-in-Ok
 returns-in-Ok g c =
-    let goes = subst (λ l. GoesInto c.args.pass (Several l) c.in-Ok.inside) c.of.ensures c.in-Ok.ensures.inside.1 in
+    let goes = subst (λ l. GoesInto c.args.pass (Several l) (record { insider = c.in-Ok.field-0.inside; wish = Several c.of.result })) c.of.ensures c.in-Ok.ensures.inside.1 in
     once _ _ _ _ _ _ (puts _ _ _ _ _ goes c.leave.ensures.same c.args.self.now.usage c.act_some-done.ensures c.in-Ok.ensures.inside.0)
