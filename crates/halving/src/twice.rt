@@ -1,26 +1,28 @@
-//! A work for tests: each item above 0 leads twice to the one below it.
+//! The work: each item above 0 leads twice to the one below it.
 ghost use Rattle.std.specs.Prelude.{◌≡◌, ◌+◌, ◌≤◌, ℕ, IfOk, OnOk, OnErr, List, [], ◌∷◌, ◌++◌, length, All, Option, Some, None};
 ghost use Rattle.std.specs.Option.{option_to_list};
 ghost use Rattle.work_pool.specs.Standing.{Lacks};
 ghost use Rattle.work_crew.specs.Crews.{IsNew};
 
+use bay_core::MOST_ITEMS;
 use std::alloc::{AllocError, Global};
 use std::marker::Model;
+use work_crew::Kept;
 use work_pool::Work;
 
-// The items that came to be given, of which the first `at` are given, those kept, up to `space`,
-// and those handled.
+/// The items that came to be given, of which the first `at` are given, those kept, and those handled.
+/// One that `lacks` wants memory for each item.
 #[derive(Drop)]
-pub(crate) struct Twice {
+pub struct Twice {
     all: Vec<u64>,
     at: usize,
-    kept: Vec<u64>,
-    space: usize,
+    kept: Kept,
     done: Vec<u64>,
+    lacks: bool,
 }
 
 impl Model for Twice {
-    ghost use Rattle.std.specs.Prelude.{◌-◌, ◌≤◌, take, drop, vec_len, vec_capacity};
+    ghost use Rattle.std.specs.Prelude.{◌≤◌, take, drop, vec_len};
     ghost use Rattle.work_pool.specs.Standing.{Standing};
 
     ghost Value = { Standing };
@@ -29,16 +31,21 @@ impl Model for Twice {
       given = take s.at s.all.items;
       to_give = drop s.at s.all.items;
       kept_items = s.kept.items;
-      spare = s.space - vec_len s.kept;
+      spare = s.kept.spare;
       done = s.done.items;
     } };
 
-    ghost invariant = { λ s. (s.at ≤ vec_len s.all) × (vec_len s.kept ≤ s.space) × (s.space ≤ vec_capacity s.kept) };
+    ghost invariant = { λ s. s.at ≤ vec_len s.all };
 }
 
 impl Twice {
-    // Work that gives this item first, or that has nothing to give.
-    pub(crate) fn new(alloc: Global, first: Option<u64>) -> Result<Twice, AllocError>
+    /// Work that gives this item first, or that has nothing to give. One that `lacks` wants memory for
+    /// each item that it handles, as a test of a crew may want it. It takes memory.
+    ///
+    /// # Errors
+    ///
+    /// Want of memory alone.
+    pub fn new(alloc: Global, first: Option<u64>, lacks: bool) -> Result<Twice, AllocError>
         ensures first { IfOk result (λ w. w.to_give ≡ option_to_list first) }
         ensures new { IfOk result (λ w. IsNew w) }
     {
@@ -46,18 +53,17 @@ impl Twice {
         if let Some(item) = first {
             all.push(item)?;
         }
-        let kept = Vec::with_capacity(alloc, 1)?;
         Ok(Twice {
             all,
             at: 0,
-            kept,
-            space: 1,
+            kept: Kept::new(alloc, 1)?,
             done: Vec::new(alloc),
+            lacks,
         })
     }
 
-    // How many items were handled.
-    pub(crate) fn done(&self) -> usize
+    /// How many items were handled. It takes no memory.
+    pub fn done(&self) -> usize
         ensures { result ≡ length self.now.done }
     {
         self.done.len()
@@ -68,22 +74,13 @@ impl Twice {
         ensures more { OnOk result ((more : List ℕ) × All (λ x. x + 1 ≡ item) more × (self.new ≡ record self.old { to_give = self.old.to_give ++ more })) }
         ensures failed { OnErr result (Lacks self.old self.new) }
     {
+        if self.lacks {
+            return Err(AllocError);
+        }
         if item > 0 {
             self.all.push(item - 1)?;
             self.all.push(item - 1)?;
         }
-        Ok(())
-    }
-
-    // Makes room to keep all that is to be given.
-    fn room(&mut self) -> Result<(), AllocError>
-        ensures room { OnOk result (length self.new.to_give ≤ self.new.spare) }
-        ensures same { OnOk result (self.new ≡ record self.old { spare = self.new.spare }) }
-        ensures failed { OnErr result (Lacks self.old self.new) }
-    {
-        let more = self.all.len() - self.at;
-        self.kept.reserve(more)?;
-        self.space = self.space.max(self.kept.len() + more);
         Ok(())
     }
 }
@@ -99,7 +96,7 @@ impl Work for Twice {
 
     fn handle(&mut self, item: u64) -> Result<(), AllocError> {
         self.lead(item)?;
-        self.room()?;
+        self.kept.widen(self.all.len() - self.at)?;
         self.done.push(item)?;
         Ok(())
     }
@@ -115,12 +112,14 @@ impl Work for Twice {
     }
 
     fn keep(&mut self, item: u64) {
-        let Ok(()) = self.kept.push(item) else {
-            unreachable!()
-        };
+        self.kept.keep(item);
     }
 
     fn kept(&mut self) -> Option<u64> {
-        self.kept.pop()
+        self.kept.hand_out()
+    }
+
+    fn has_handful(&self) -> bool {
+        self.all.len() - self.at >= MOST_ITEMS
     }
 }

@@ -1,15 +1,15 @@
 //! Drives over a bay of one block, on one thread.
 ghost use Rattle.std.specs.Prelude.{◌≡◌, ◌≤◌, ◌^◌, length};
 
-use super::halving::Twice;
 use super::pools::hand_of;
-use crate::{Drive, Gate, Hand, OpenGate, Pool, Way, drive};
+use crate::Twice;
 use bay_core::Layout;
 use bay_store::{Bay, BayPass, Closed};
 use std::alloc::{AllocError, Global};
 use std::cell::Cell;
 use std::process::Abort;
 use std::sync::Wait;
+use work_pool::{Drive, Gate, Hand, OpenGate, Pool, Way, drive};
 
 // What a drive left: how many items were handled, the shares of the pass, how many questions it asked,
 // and the closed bay.
@@ -77,7 +77,7 @@ fn drive_alone<R: Wait + Abort, G: Gate>(
 {
     let (bay, mut passes) = Bay::set_up(alloc, Layout::Split, 1, 1, draws)?;
     let hand = hand_of(&bay, &mut passes).expect(rt, "a hand");
-    let work = Twice::new(alloc, 3, lacks)?;
+    let work = Twice::new(alloc, Some(3), lacks)?;
     left_of(rt, alloc, bay, hand, work, gate)
 }
 

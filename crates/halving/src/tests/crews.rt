@@ -1,31 +1,13 @@
 //! Crews of one and of three workers, through both lists of their bay.
-ghost use Rattle.std.specs.Prelude.{◌≡◌, map, vec_len, IfOk};
 ghost use Rattle.work_pool.specs.Crews.{IsCrew};
-ghost use Rattle.work_crew.specs.Crews.{AreNew};
 
-use crate::{Ended, run_crew};
+use crate::works_of;
 use bay_core::Layout;
 use std::alloc::{AllocError, Global};
 use std::sync::Wait;
 use std::thread::Threads;
+use work_crew::{Ended, run_crew};
 use work_pool::{Crew, OpenGate, Way};
-
-mod halving;
-
-use halving::Twice;
-
-// A work for each worker, of which the first one gives 6.
-fn works_of(alloc: Global, workers: u32) -> Result<Vec<Twice>, AllocError>
-    ensures many { IfOk result (λ works. vec_len works ≡ workers) }
-    ensures new { IfOk result (λ works. AreNew (map (λ work. work) works.items)) }
-{
-    let mut works = Vec::new(alloc);
-    for worker in 0..workers {
-        let first = if worker == 0 { Some(6) } else { None };
-        works.push(Twice::new(alloc, first)?)?;
-    }
-    Ok(works)
-}
 
 // How many items the drives counted, how many were handled, and how many were left.
 fn counts<R: Threads + Wait + Sync>(
@@ -36,7 +18,7 @@ fn counts<R: Threads + Wait + Sync>(
 ) -> Result<(u64, usize, usize), AllocError>
     requires { IsCrew crew.now }
 {
-    let works = works_of(alloc, crew.workers)?;
+    let works = works_of(alloc, crew.workers, 6)?;
     let Ended {
         works,
         drives,

@@ -1,12 +1,7 @@
 //! A gate through a parameter.
-use crate::{Gate, OpenGate};
 use std::cell::Cell;
 use std::test::Fail;
-
-mod alone;
-mod halving;
-mod handfuls;
-mod pools;
+use work_pool::{Gate, OpenGate};
 
 // A gate that adds up what it was asked.
 #[derive(Drop)]

@@ -3,14 +3,14 @@ ghost use Rattle.std.specs.Prelude.{◌≡◌, ◌≤◌, length, IfOk};
 ghost use Rattle.work_pool.specs.declared.pools.Way.TheVariants.{Stack};
 
 use super::alone::{Left, driven_so, left_of};
-use super::halving::Twice;
 use super::pools::hand_of;
-use crate::{Hand, OpenGate, Pool, PutSome, Way, Work};
+use crate::Twice;
 use bay_core::Layout;
 use bay_store::{Bay, Stop};
 use std::alloc::{AllocError, Global};
 use std::process::Abort;
 use std::sync::Wait;
+use work_pool::{Hand, OpenGate, Pool, PutSome, Way, Work};
 
 // Puts twenty items, and answers how many are in the pool, what stopped it and the draws then.
 fn put_twenty<R: Wait>(rt: &R, pool: &Pool, hand: Hand) -> (Hand, (u32, Stop))
@@ -45,7 +45,7 @@ fn a_handful_is_stored_as_far_as_there_are_cells(rt: HostRuntime) -> Result<(), 
 fn keeping(rt: &impl Abort, alloc: Global) -> Result<Twice, AllocError>
     ensures { IfOk result (λ w. length w.to_give ≤ w.spare) }
 {
-    let mut work = Twice::new(alloc, 3, false)?;
+    let mut work = Twice::new(alloc, Some(3), false)?;
     work.handle(3)?;
     let first = work.give().expect(rt, "an item");
     work.keep(first);

@@ -4,13 +4,13 @@ ghost use Rattle.room_rule.specs.Use.{IsAt};
 ghost use Rattle.room_gate.specs.Shows.{Caller};
 ghost use Rattle.bay_rule.specs.declared.views.BayView.{BayView};
 
-use crate::{Gate, Hand, OpenGate, Pool, Put, Taken, Way};
 use bay_core::{Layout, Reply};
 use bay_store::{Bay, BayPass};
 use std::alloc::AllocError;
 use std::cell::Cell;
 use std::process::Abort;
 use std::sync::Wait;
+use work_pool::{Gate, Hand, OpenGate, Pool, Put, Taken, Way};
 
 // A hand of the last of the passes, each of which holds one share.
 pub(crate) fn hand_of(bay: &Bay, passes: &mut Vec<BayPass>) -> Option<Hand>

@@ -5,8 +5,8 @@ use Rattle.room_rule.specs.Use.{IsAt}
 use Rattle.work_pool.specs.Standing.{Standing}
 use Rattle.work_crew.specs.Crews.{IsNew, AreNew}
 use Rattle.work_crew.proofs.Placing.{at_push}
-use Rattle.work_crew.proofs.tests.works_of.Goals as goal
-use Rattle.work_crew.proofs.tests.works_of.Goals.{then-worker-eq0, else-worker-eq0}
+use Rattle.halving.proofs.works.works_of.Goals as goal
+use Rattle.halving.proofs.works.works_of.Goals.{then-worker-eq0, else-worker-eq0}
 
 -- one work more
 more_new : (works now : List Standing) (work : Standing) → now ≡ works ++ work ∷ [] → IsNew work

@@ -1,6 +1,6 @@
 use Rattle.std.proofs.Common.{◌≡◌, length}
 use Rattle.work_crew.specs.Crews.{AreNew}
-use Rattle.work_crew.proofs.tests.works_of.Given as goal
+use Rattle.halving.proofs.works.works_of.Given as goal
 
 abbrev pub invariant-loop-worker : goal.invariant-loop-worker
 invariant-loop-worker l = record {

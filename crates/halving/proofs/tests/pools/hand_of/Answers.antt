@@ -1,7 +1,7 @@
 use Rattle.std.proofs.Common.{List, length, refl, sym, subst}
 use Rattle.atomic_table.proofs.Lists.{at_last}
 use Rattle.room_rule.specs.Use.{IsAt}
-use Rattle.work_pool.proofs.tests.pools.hand_of.Goals as goal
+use Rattle.halving.proofs.tests.pools.hand_of.Goals as goal
 
 pub returns : goal.returns
 returns c =

@@ -2,7 +2,7 @@ use Rattle.std.proofs.Common.{◌≡◌, ◌-◌, ◌+◌, ◌≤◌, ℕ, List,
 use Rattle.std.proofs.lemmas.List.{append_assoc, take-append-le, drop-append-le}
 use Rattle.std.proofs.lemmas.List.Elements.{All-nil, All-cons}
 use Rattle.work_pool.specs.Standing.{Standing}
-use Rattle.work_crew.proofs.tests.halving.Twice.lead.Goals as goal
+use Rattle.halving.proofs.twice.Twice.lead.Goals as goal
 
 -- the standing by what came to be given
 abbrev given_to : (kept done : List ℕ) (spare at : ℕ) → List ℕ → Standing
