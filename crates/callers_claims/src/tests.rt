@@ -1,29 +1,28 @@
 //! Two threads and a thousand bits: each is won once.
-ghost use Rattle.std.specs.Prelude.{◌≡◌, IfSome};
-ghost use Rattle.mark_words.specs.Shows.{newcomer};
-ghost use Rattle.mark_words.specs.Making.{AreSeats};
+ghost use Rattle.std.specs.Prelude.{◌≡◌, ℕ, IfSome};
+ghost use Rattle.mark_words.specs.Rule.{IsAt};
+ghost use Rattle.mark_words.specs.Shows.{Claimant};
 
 use crate::claim_each;
 use mark_words::{ClaimSeat, Claims};
 use std::alloc::AllocError;
 use std::thread::join;
 
-// The two seats of a set-up.
-fn pair(claims: &Claims, seats: Vec<ClaimSeat>) -> Option<(ClaimSeat, ClaimSeat)>
-    requires { AreSeats claims.now.site 2 seats.items }
-    ensures { IfSome result (λ p. (p.0 ≡ newcomer claims.now.site 0) × (p.1 ≡ newcomer claims.now.site 1)) }
+// The last of these seats, each of which is of the claims.
+fn taken(claims: &Claims, seats: &mut Vec<ClaimSeat>) -> Option<ClaimSeat>
+    requires { (i : ℕ) (s : Claimant) → IsAt seats.old.items i s → s.site ≡ claims.now.site }
+    ensures own { IfSome result (λ s. s.site ≡ claims.now.site) }
+    ensures rest { (i : ℕ) (s : Claimant) → IsAt seats.new.items i s → s.site ≡ claims.now.site }
 {
     let _ = claims;
-    let mut seats = seats;
-    let two = seats.pop()?;
-    let one = seats.pop()?;
-    Some((one, two))
+    seats.pop()
 }
 
 #[test]
 fn two_threads_win_each_bit_once(rt: HostRuntime) -> Result<(), AllocError> {
-    let (claims, seats) = Claims::set_up(rt.alloc(), 1000, 2)?;
-    let (one, two) = pair(&claims, seats).expect(&rt, "two seats");
+    let (claims, mut seats) = Claims::set_up(rt.alloc(), 1000, 2)?;
+    let one = taken(&claims, &mut seats).expect(&rt, "a seat");
+    let two = taken(&claims, &mut seats).expect(&rt, "another seat");
     let shared = &claims;
     let ((_, by_one), (_, by_two)) = join(
         &rt,

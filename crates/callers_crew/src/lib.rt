@@ -1,32 +1,17 @@
-//! A caller to copy: a work that two workers share, each in a thread of its own.
+//! A caller to copy: a work that two workers share, each in a thread of its own. The work is that of
+//! `halving`, which is to copy too.
 #![tactic(auto)]
 
-ghost use Rattle.std.specs.Prelude.{◌≡◌, map, vec_len, IfOk};
-ghost use Rattle.work_crew.specs.Crews.{AreNew};
+ghost use Rattle.std.specs.Prelude.{map, IfOk};
 ghost use Rattle.work_crew.specs.Settled.{AreSettled};
 
-mod halving;
-
 use bay_core::Layout;
-pub use halving::Twice;
+use halving::{Twice, works_of};
 use std::alloc::{AllocError, Global};
 use std::sync::Wait;
 use std::thread::Threads;
 use work_crew::{Ended, run_crew};
 use work_pool::{Crew, OpenGate, Way};
-
-// A work for each worker, of which the first one gives this number.
-fn works_of(alloc: Global, workers: u32, from: u64) -> Result<Vec<Twice>, AllocError>
-    ensures many { IfOk result (λ works. vec_len works ≡ workers) }
-    ensures new { IfOk result (λ works. AreNew (map (λ work. work) works.items)) }
-{
-    let mut works = Vec::new(alloc);
-    for worker in 0..workers {
-        let first = if worker == 0 { Some(from) } else { None };
-        works.push(Twice::new(alloc, first)?)?;
-    }
-    Ok(works)
-}
 
 /// Has two workers handle a number, then twice the number below it, and so on down to 0. What the works
 /// gave was done by one of them or is left, as often as it was given, and no work has anything left to give

@@ -11,6 +11,8 @@ use Rattle.room_rule.proofs.Lists.{of_map}
 use Rattle.work_pool.specs.Standing.{Standing, Handles}
 use Rattle.bay_core.specs.Times.{times}
 use Rattle.work_crew.specs.Crews.{IsNew, AreNew}
+use Rattle.work_crew.specs.Keeping.{Keeping}
+use Rattle.work_crew.proofs.Keeping.{standing, handled}
 use Rattle.work_crew.specs.Settled.{given_by, done_by, AreSettled}
 use Rattle.bay_core.proofs.Counts.{times-none, times-cons, times-append, times-flat, same_times}
 use Rattle.work_crew.proofs.Counts.{sum-balance, sum-none, sum-map}
@@ -76,35 +78,12 @@ job_done p begun slid now came came_now done job d before =
       in_more p done job,
     )
 
--- the standing by what came to be given
-abbrev pub standing : ℕ → List ℕ → List ℕ → ℕ → List ℕ → Standing
-standing at came kept space done = record {
-  given = take at came;
-  to_give = drop at came;
-  kept_items = kept;
-  spare = space - length kept;
-  done = done;
-}
-
 -- the job is handled
-pub job_handled : (job at space space_now : ℕ) (slid now came came_now kept done : List ℕ) → DoesJob job slid now came came_now
-    → at ≤ length came → length came - at + (end_of job - first_of job) + length kept ≤ space_now
-    → Handles (λ x. IsLater job x) job (standing at came kept space done) (standing at came_now kept space_now (done ++ job ∷ []))
-job_handled job at space space_now slid now came came_now kept done d within room =
-    let front : take at came_now ≡ take at came = ap (take at) d.jobs_are ∙ take-append-le at came d.more within in
-    let back : drop at came_now ≡ drop at came ++ d.more = ap (drop at) d.jobs_are ∙ drop-append-le at came d.more within in
-    record {
-      more = d.more;
-      led = d.parts;
-      room = omega (arith, d.few, room, within, ap length back, length-append (drop at came) d.more, length-drop at came);
-      same = ap₂ (λ (g t : List ℕ). record {
-        given = g;
-        to_give = t;
-        kept_items = kept;
-        spare = space_now - length kept;
-        done = done ++ job ∷ [];
-      }) front back;
-    }
+pub job_handled : (job at : ℕ) (kept kept_now : Keeping) (slid now came came_now done : List ℕ) → DoesJob job slid now came came_now
+    → kept_now.items ≡ kept.items → at ≤ length came → length came - at + (end_of job - first_of job) ≤ kept_now.spare
+    → Handles (λ x. IsLater job x) job (standing at came kept done) (standing at came_now kept_now (done ++ job ∷ []))
+job_handled job at kept kept_now slid now came came_now done d same within room =
+    handled (λ x. IsLater job x) job at came d.more came_now done kept kept_now d.jobs_are same within d.parts (omega (arith, d.few, room))
 
 -- as contracts see it
 pub accounts_so : (heap : Heap) (marks : List Bool) (ranks : List Bool) (whole : Bool) (slid : List ℕ) (at : ℕ) (came kept done : List ℕ) (spare : ℕ)

@@ -1,5 +1,5 @@
 -- A slider by its fields.
-use Rattle.std.specs.Prelude.{◌≡◌, ℕ, ◌+◌, ◌-◌, ◌≤◌, map, length, take, drop, vec_capacity, All}
+use Rattle.std.specs.Prelude.{◌≡◌, ℕ, ◌+◌, ◌≤◌, map, length, take, drop, All}
 use Rattle.std.specs.List.{flat_map}
 use Rattle.bay_core.specs.Times.{times}
 use Rattle.image_slide.specs.Jobs.{pieces_in}
@@ -19,7 +19,7 @@ sliding_of s = record {
     given = take s.at s.came.items;
     to_give = drop s.at s.came.items;
     kept_items = s.kept.items;
-    spare = s.space - length s.kept.items;
+    spare = s.kept.spare;
     done = s.done.items;
   };
 }
@@ -27,8 +27,6 @@ sliding_of s = record {
 -- what holds of each slider
 pub record IsSlider (s : Inside) : Type 0 where
   pub at : s.at ≤ length s.came.items
-  pub kept : length s.kept.items ≤ s.space
-  pub space : s.space ≤ vec_capacity s.kept
   pub ranks : length s.ranks.now ≡ length s.image.now.words
   pub slid : All (IsSlid s.image.now s.marks.now s.ranks.now) s.parts.items
   pub account : (p : ℕ)

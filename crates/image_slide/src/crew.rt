@@ -5,13 +5,13 @@ ghost use Rattle.room_rule.specs.Use.{IsAt};
 ghost use Rattle.bay_core.specs.Times.{times};
 ghost use Rattle.image_core.specs.Heap.{Heap};
 ghost use Rattle.image_core.specs.Live.{MarksLive};
+ghost use Rattle.image_slide.specs.Parts.{IsSlid, AreOnce};
 ghost use Rattle.work_pool.specs.Crews.{IsCrew};
 ghost use Rattle.image_slide.specs.Slide.{slide};
+ghost use Rattle.image_slide.specs.Sliding.{AreOf, Accounts};
 ghost use Rattle.image_slide.specs.Moving.{IsMoved};
 ghost use Rattle.image_slide.specs.Pieces.{pieces_of};
 ghost use Rattle.image_slide.specs.Jobs.{pieces_in};
-ghost use Rattle.image_slide.specs.Parts.{IsSlid, AreOnce};
-ghost use Rattle.image_slide.specs.Sliding.{AreOf, Accounts};
 
 use crate::jobs::{end_piece, first_piece};
 use crate::joins::joined;

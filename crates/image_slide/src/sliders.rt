@@ -11,10 +11,11 @@ use bit_sets::RankedBits;
 use image_core::Image;
 use std::alloc::{AllocError, Global};
 use std::marker::Model;
+use work_crew::Kept;
 use work_pool::Work;
 
-// The halves of its jobs came to be given, and the first `at` of them are given. Up to `space` of
-// those that came back can be kept. What it slid is its own.
+// The halves of its jobs came to be given, and the first `at` of them are given. Those that came back
+// are kept. What it slid is its own.
 #[derive(Drop)]
 pub(crate) struct Slider<'a> {
     alloc: Global,
@@ -25,8 +26,7 @@ pub(crate) struct Slider<'a> {
     parts: Vec<Part>,
     came: Vec<u64>,
     at: usize,
-    kept: Vec<u64>,
-    space: usize,
+    kept: Kept,
     done: Vec<u64>,
 }
 
@@ -42,30 +42,23 @@ impl<'a> Model for Slider<'a> {
     ghost invariant = { IsSlider };
 }
 
-// Makes room for `more` jobs that may come, for a piece that is slid and a job that is done, and to
-// keep `waiting` more.
+// Makes room for `more` jobs that may come, for a piece that is slid and for a job that is done.
 fn make_room(
     came: &mut Vec<u64>,
     parts: &mut Vec<Part>,
     done: &mut Vec<u64>,
-    kept: &mut Vec<u64>,
     more: usize,
-    waiting: usize,
 ) -> Result<(), AllocError>
     ensures came { came.new.items ≡ came.old.items }
     ensures parts { parts.new.items ≡ parts.old.items }
     ensures done { done.new.items ≡ done.old.items }
-    ensures kept { kept.new.items ≡ kept.old.items }
-    ensures capacity { vec_capacity kept.old ≤ vec_capacity kept.new }
     ensures came_room { OnOk result (length came.new.items + more ≤ vec_capacity came.new) }
     ensures parts_room { OnOk result (length parts.new.items + 1 ≤ vec_capacity parts.new) }
     ensures done_room { OnOk result (length done.new.items + 1 ≤ vec_capacity done.new) }
-    ensures kept_room { OnOk result (length kept.new.items + waiting ≤ vec_capacity kept.new) }
 {
     came.reserve(more)?;
     parts.reserve(1)?;
     done.reserve(1)?;
-    kept.reserve(waiting)?;
     Ok(())
 }
 
@@ -110,15 +103,8 @@ impl<'a> Work for Slider<'a> {
 
     fn handle(&mut self, item: u64) -> Result<(), AllocError> {
         let more = end_piece(item).saturating_sub(first_piece(item)) as usize;
-        let waiting = self.came.len() - self.at + more;
-        make_room(
-            &mut self.came,
-            &mut self.parts,
-            &mut self.done,
-            &mut self.kept,
-            more,
-            waiting,
-        )?;
+        make_room(&mut self.came, &mut self.parts, &mut self.done, more)?;
+        self.kept.widen(self.came.len() - self.at + more)?;
         do_job(
             self.alloc,
             self.image,
@@ -128,7 +114,6 @@ impl<'a> Work for Slider<'a> {
             &mut self.parts,
             &mut self.came,
         )?;
-        self.space = self.space.max(self.kept.len() + waiting);
         self.done.push_reserved(item);
         Ok(())
     }
@@ -144,11 +129,11 @@ impl<'a> Work for Slider<'a> {
     }
 
     fn keep(&mut self, item: u64) {
-        self.kept.push_reserved(item);
+        self.kept.keep(item);
     }
 
     fn kept(&mut self) -> Option<u64> {
-        self.kept.pop()
+        self.kept.hand_out()
     }
 }
 
@@ -175,8 +160,7 @@ impl<'a> Slider<'a> {
             parts: Vec::new(alloc),
             came,
             at: 0,
-            kept: Vec::with_capacity(alloc, 1)?,
-            space: 1,
+            kept: Kept::new(alloc, 1)?,
             done: Vec::new(alloc),
         })
     }

@@ -49,3 +49,10 @@ seats_more site made seats more c is new h =
           ∙ ap (newcomer site) (sym (t.0 ∙ h.long)))
           (at_end seats c d i at);
     })
+
+-- two that are taken from the end of two are both of them
+pub two_of : {A : Type 0} (all rest less : List A) (one two : A) → all ≡ rest ++ two ∷ [] → rest ≡ less ++ one ∷ []
+    → length all ≡ 2 → all ≡ one ∷ two ∷ []
+two_of all rest [] one two a b long = a ∙ ap (λ l. l ++ two ∷ []) b
+two_of all rest (x ∷ less) one two a b long =
+    absurd (omega (arith, long, ap length a, ap length b, length-append rest (two ∷ []), length-append less (one ∷ [])))

@@ -4,5 +4,6 @@ pub mod LeavingSteps
 pub mod Closing
 pub mod Together
 pub mod UserWords
+pub mod Owing
 pub mod Meeting
 pub mod Counting

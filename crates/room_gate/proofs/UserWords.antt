@@ -1,5 +1,5 @@
 -- The rooms allow the steps on user words that their callers may take.
-use Rattle.std.proofs.Common.{◌≡◌, ℕ, ◌+◌, ◌-◌, ◌%◌, ◌^◌, ◌<◌, ◌≤◌, List, Option, Some, Some, None, sym, ap, subst, ◌∙◌, arith, false, length, get_or, set}
+use Rattle.std.proofs.Common.{◌≡◌, ℕ, ◌+◌, ◌-◌, ◌%◌, ◌^◌, ◌<◌, ◌≤◌, List, Option, Some, Some, None, refl, sym, ap, subst, ◌∙◌, arith, false, length, get_or, set}
 use Rattle.atomic_table.specs.Table.{Allows}
 use Rattle.room_rule.specs.Use.{Own, own, Meaning, ShowsWords, user_place}
 use Rattle.room_rule.specs.Laws.{Laws}
@@ -16,7 +16,7 @@ use Rattle.room_gate.specs.PassModel.{IsOut, caller_of}
 use Rattle.room_gate.specs.InsideModel.{IsInside, insider_of}
 use Rattle.room_gate.specs.KeyModel.{IsKey, holder_of}
 use Rattle.room_gate.specs.RoomsModel.{IsSetUp, site_of}
-use Rattle.room_gate.specs.Stepping.{MayStep, MayExit, MayTouch, HasStepped, Permits, own_of, own_at, InsideAt, ExitAt, TouchAt}
+use Rattle.room_gate.specs.Stepping.{MayStep, MayExit, MayTouch, HasStepped, Permits, own_of, own_at, InsideAt, ExitAt, TouchAt, stepped_to, touched_to}
 use Rattle.room_core.specs.declared.phases.Phase.TheVariants.{Inside, Exiting}
 use Rattle.room_gate.specs.declared.rooms.Rooms.TheInside as rooms
 use Rattle.room_gate.specs.declared.passes.Pass.TheInside as passes
@@ -80,6 +80,15 @@ module _ {X S V : Type 0} (M : Meaning X S V) (m : ℕ) where
         (sym is.phase ∙ at) in
         subst (λ (z : ℕ × ℕ). StepMade M site.usage i.seat.me.0.who word z.0 z.1 (own_at i.seat.me) n
         (plain n) (own u (held_in carried))) (λ j. (e.0 j, e.1 j)) t.1))
+
+    -- a step that tells the seat what it comes to
+    pub steps_to : (i : stays.Inside X V S) → IsInside m M i → (now : Insider S V) → insider_of i ≡ now
+        → (change plain : ℕ → ℕ) (fits : ℕ → Type 0) → MayStep M site.usage now word plain fits then
+        → ((n : ℕ) → n < 2 ^ 64 → fits n → change n ≡ plain n)
+        → Permits M m site i.seat.me word change (stepped_to M site.usage word then plain i.seat.me)
+    steps_to i is now view change plain fits may same =
+        steps_of i is now view change plain fits (stepped_to M site.usage word then plain i.seat.me) may same
+        (λ n u carried has t made. (refl, has, t, made))
 
     -- what a store tells the seat, it tells who shows that it is so
     pub has_stored : (i : stays.Inside X V S) → IsInside m M i → (now : Insider S V)
@@ -153,3 +162,12 @@ module _ {X S V : Type 0} (M : Meaning X S V) (m : ℕ) where
         (subst (λ (z : Caller V). MayTouch M site.usage z word plain fits then)
         (λ j. record (caller_of p) { who = sym is.of.who j }) asked)) same
         (λ n u t. told n u t.0 t.1)
+
+    -- a touch that tells the seat what it comes to
+    pub touches_to : (p : passes.Inside X V S) → IsOut p → (now : Caller V) → caller_of p ≡ now
+        → (change plain : ℕ → ℕ) (fits : ℕ → Type 0) → MayTouch M site.usage now word plain fits then
+        → ((n : ℕ) → n < 2 ^ 64 → fits n → change n ≡ plain n)
+        → Permits M m site p.seat.me word change (touched_to M site.usage word then plain p.seat.me)
+    touches_to p is now view change plain fits may same =
+        touches_of p is now view change plain fits (touched_to M site.usage word then plain p.seat.me) may same
+        (λ n u t made. (refl, t, made))

@@ -31,6 +31,3 @@ pub use pools::{Pool, Way};
 pub use puts::Put;
 pub use takes::Taken;
 pub use works::Work;
-
-#[cfg(test)]
-mod tests;

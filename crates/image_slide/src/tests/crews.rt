@@ -1,36 +1,19 @@
 //! Sliding with crews.
-ghost use Rattle.std.specs.Prelude.{◌≤◌, ◌^◌};
 ghost use Rattle.work_pool.specs.Crews.{IsCrew};
 
 use crate::crew::moved_with;
 use crate::slide::moved_one;
 use crate::{slide_one, slide_with};
 use bay_core::Layout;
-use crossbeam_utils::Backoff;
+use halving::{Meeting, crew_of};
 use image_core::Image;
 use image_reader::make_image;
 use std::alloc::{AllocError, Global};
 use std::process::Abort;
 use std::sync::Wait;
-use std::sync::atomic::{AtomicU64, Ordering};
 use std::test::Fail;
 use std::thread::Threads;
 use work_pool::{Crew, Gate, OpenGate};
-
-// A crew of so many workers over so many blocks.
-fn crew_of(workers: u32, blocks: u32, draws: u64) -> Crew
-    requires workers { (1 ≤ workers) × (workers ≤ 16) }
-    requires blocks { (1 ≤ blocks) × (blocks ≤ 16384) }
-    requires draws { (1 ≤ draws) × (draws ≤ 2 ^ 48) }
-    ensures { IsCrew result }
-{
-    Crew {
-        workers,
-        blocks,
-        layout: Layout::Split,
-        draws,
-    }
-}
 
 // Marks by which each third object goes.
 fn two_of_three(alloc: Global, objects: u32) -> Result<Vec<bool>, AllocError> {
@@ -64,10 +47,10 @@ fn moves_alike<R: Threads + Wait + Sync + Abort, G: Gate + Sync>(
 fn every_crew_moves_what_one_thread_moves(rt: HostRuntime) -> Result<(), Fail> {
     let alloc = rt.alloc();
     let image = make_image(alloc, 100_000, 1)?;
-    moves_alike(&rt, alloc, &image, crew_of(1, 1, 1 << 24), &OpenGate)?;
-    moves_alike(&rt, alloc, &image, crew_of(1, 64, 1 << 24), &OpenGate)?;
-    moves_alike(&rt, alloc, &image, crew_of(4, 1, 1 << 24), &OpenGate)?;
-    moves_alike(&rt, alloc, &image, crew_of(4, 64, 1 << 24), &OpenGate)?;
+    moves_alike(&rt, alloc, &image, crew_of(1, Layout::Split, 1, 1 << 24), &OpenGate)?;
+    moves_alike(&rt, alloc, &image, crew_of(1, Layout::Split, 64, 1 << 24), &OpenGate)?;
+    moves_alike(&rt, alloc, &image, crew_of(4, Layout::Split, 1, 1 << 24), &OpenGate)?;
+    moves_alike(&rt, alloc, &image, crew_of(4, Layout::Split, 64, 1 << 24), &OpenGate)?;
     Ok(())
 }
 
@@ -75,9 +58,9 @@ fn every_crew_moves_what_one_thread_moves(rt: HostRuntime) -> Result<(), Fail> {
 fn spent_passes_leave_pieces_that_are_moved_all_the_same(rt: HostRuntime) -> Result<(), Fail> {
     let alloc = rt.alloc();
     let image = make_image(alloc, 2000, 3)?;
-    moves_alike(&rt, alloc, &image, crew_of(4, 2, 1), &OpenGate)?;
-    moves_alike(&rt, alloc, &image, crew_of(4, 2, 2), &OpenGate)?;
-    moves_alike(&rt, alloc, &image, crew_of(16, 1, 5), &OpenGate)?;
+    moves_alike(&rt, alloc, &image, crew_of(4, Layout::Split, 2, 1), &OpenGate)?;
+    moves_alike(&rt, alloc, &image, crew_of(4, Layout::Split, 2, 2), &OpenGate)?;
+    moves_alike(&rt, alloc, &image, crew_of(16, Layout::Split, 1, 5), &OpenGate)?;
     Ok(())
 }
 
@@ -92,56 +75,11 @@ fn an_image_without_objects_keeps_its_format_and_its_null_roots(
     let one = slide_one(alloc, &image, &[])?;
     assert!(rt; one.words().is_empty() && one.format() == 2);
     assert_eq!(rt; one.roots(), [0, 0].as_slice());
-    let crew = crew_of(2, 64, 1 << 24);
+    let crew = crew_of(2, Layout::Split, 64, 1 << 24);
     let slid = slide_with(&rt, alloc, &image, &[], &crew, &OpenGate)?;
     assert!(rt; slid.words().is_empty() && slid.format() == 2);
     assert_eq!(rt; slid.roots(), [0, 0].as_slice());
     Ok(())
-}
-
-// A gate that holds each of two workers at its question 0 until the other one has asked, and counts
-// how often that did not come.
-#[derive(Drop)]
-struct Meeting {
-    first: AtomicU64,
-    second: AtomicU64,
-    missed: AtomicU64,
-}
-
-impl Meeting {
-    fn new() -> Meeting {
-        Meeting {
-            first: AtomicU64::new(0),
-            second: AtomicU64::new(0),
-            missed: AtomicU64::new(0),
-        }
-    }
-
-    // Returns once the other worker has asked, or after so many turns, which it counts.
-    fn wait_for(&self, other: &AtomicU64) {
-        let backoff = Backoff::new();
-        for _ in 0..10_000_000 {
-            if other.load(Ordering::SeqCst) > 0 {
-                return;
-            }
-            backoff.snooze();
-        }
-        self.missed.fetch_add(1, Ordering::SeqCst);
-    }
-}
-
-impl Gate for Meeting {
-    fn ask(&self, worker: u32, take: u64) {
-        let (mine, other) = if worker == 0 {
-            (&self.first, &self.second)
-        } else {
-            (&self.second, &self.first)
-        };
-        mine.fetch_add(1, Ordering::SeqCst);
-        if take == 0 {
-            self.wait_for(other);
-        }
-    }
 }
 
 #[test]
@@ -149,9 +87,7 @@ fn two_workers_are_under_way_together(rt: HostRuntime) -> Result<(), Fail> {
     let alloc = rt.alloc();
     let image = make_image(alloc, 100_000, 1)?;
     let gate = Meeting::new();
-    moves_alike(&rt, alloc, &image, crew_of(2, 64, 1 << 24), &gate)?;
-    assert_eq!(rt; gate.missed.load(Ordering::SeqCst), 0);
-    assert!(rt; gate.first.load(Ordering::SeqCst) > 0);
-    assert!(rt; gate.second.load(Ordering::SeqCst) > 0);
+    moves_alike(&rt, alloc, &image, crew_of(2, Layout::Split, 64, 1 << 24), &gate)?;
+    assert!(rt; gate.met(1));
     Ok(())
 }

@@ -74,12 +74,9 @@ fn each_read_that_fails_is_told(rt: HostRuntime) -> Result<(), Fail> {
         failing.read = Some(call);
         let ended = byte_by_byte(&rt, alloc, &["compact"], &input, failing)?;
         if call < 73 {
-            assert_eq!(rt; ended.status, Status::ReadFault);
-            assert!(rt; ended.sink.written().is_empty());
-            assert_eq!(rt; ended.notes.written(), b"read fault\n".as_slice());
+            ended.refused(&rt, Status::ReadFault, "read fault\n");
         } else {
-            assert_eq!(rt; ended.status, Status::Good);
-            assert_eq!(rt; ended.sink.written(), output.as_slice());
+            ended.gave(&rt, output.as_slice());
         }
     }
     Ok(())
@@ -102,8 +99,7 @@ fn each_write_that_fails_leaves_what_was_written(rt: HostRuntime) -> Result<(), 
     let mut failing = NO_CALL;
     failing.write = Some(56);
     let ended = byte_by_byte(&rt, alloc, &["compact"], &input, failing)?;
-    assert_eq!(rt; ended.status, Status::Good);
-    assert_eq!(rt; ended.sink.written(), output.as_slice());
+    ended.gave(&rt, output.as_slice());
     Ok(())
 }
 

@@ -39,13 +39,10 @@ fn a_schedule_of_a_thousand_acts_is_run_to_its_end(rt: HostRuntime) -> Result<()
     let mut attempt = Attempt::new(&["schedule"], text.as_bytes());
     attempt.room = 100_000;
     let ended = attempt.ended(&rt, alloc)?;
-    assert_eq!(rt; ended.status, Status::Good);
-    assert_eq!(rt; ended.sink.written(), printed_stays(alloc, 100)?.as_bytes());
+    ended.gave(&rt, printed_stays(alloc, 100)?.as_bytes());
     text.push_str("leave 0\n")?;
     let ended = Attempt::new(&["schedule"], text.as_bytes()).ended(&rt, alloc)?;
-    assert_eq!(rt; ended.status, Status::Act(1001, Refused::NotIn));
-    assert!(rt; ended.sink.written().is_empty());
-    assert_eq!(rt; ended.notes.written(), b"act 1001 NotIn\n".as_slice());
+    ended.refused(&rt, Status::Act(1001, Refused::NotIn), "act 1001 NotIn\n");
     Ok(())
 }
 
@@ -171,9 +168,7 @@ fn a_text_of_newlines_is_refused_at_its_first_empty_line(rt: HostRuntime) -> Res
         let mut text = Vec::from_slice(alloc, head.as_bytes())?;
         text.resize(1_048_576, b'\n')?;
         let ended = Attempt::new(&[command], &text).ended(&rt, alloc)?;
-        assert_eq!(rt; ended.status, Status::Script(line));
-        assert!(rt; ended.sink.written().is_empty());
-        assert_eq!(rt; ended.notes.written(), note.as_bytes());
+        ended.refused(&rt, Status::Script(line), note);
     }
     Ok(())
 }

@@ -14,8 +14,6 @@ invariant_of-self c =
     let i = c.self.invariant in let e = c.make_room.ensures in
     record {
       at = rw e.came i.at;
-      kept = rw e.kept i.kept;
-      space = omega (arith, i.space, e.capacity);
       ranks = i.ranks;
       slid = All-same (IsSlid c.self.inside.image.now c.self.inside.marks.now c.self.inside.ranks.now) _ _ e.parts i.slid;
       account = λ p. rw (e.parts, e.came, e.done) (i.account p);
@@ -26,8 +24,6 @@ invariant_of-self-in_err-do_job c =
     let i = c.self.invariant in let e = c.make_room.ensures in let f = c.in_err-do_job.ensures.failed in
     record {
       at = rw (f.1, e.came) i.at;
-      kept = rw e.kept i.kept;
-      space = omega (arith, i.space, e.capacity);
       ranks = i.ranks;
       slid = c.do_job.ensures.slid;
       account = λ p. rw (f.0, f.1, e.parts, e.came, e.done) (i.account p);
@@ -46,16 +42,6 @@ invariant_of-self-2 c =
     let d = from_there c.args.item s.parts.items _ _ s.came.items _ _ e.parts e.came c.in_ok-do_job.ensures.does in
     record {
       at = omega (arith, i.at, ap length d.jobs_are, length-append s.came.items d.more);
-      kept = omega (arith, c.max-self-inside.ensures, i.kept, ap length e.kept);
-      space = omega (
-        arith,
-        c.max-self-inside.ensures,
-        c.len-2.ensures,
-        i.space,
-        e.capacity,
-        c.in_ok-make_room.ensures.kept_room,
-        c.make_room.new.kept.ok.0,
-      );
       ranks = i.ranks;
       slid = c.do_job.ensures.slid;
       account = λ p. rw (c.push_reserved.ensures.items, e.done)
@@ -66,18 +52,15 @@ pub returns-clause-done : goal.returns-clause-done
 returns-clause-done c =
     let i = c.self.invariant in let e = c.make_room.ensures in let s = c.self.inside in
     let d = from_there c.args.item s.parts.items _ _ s.came.items _ _ e.parts e.came c.in_ok-do_job.ensures.does in
-    let enough : length s.came.items - s.at + (end_of c.args.item - first_of c.args.item) + length s.kept.items ≤ c.max-self-inside.result =
+    let enough : length s.came.items - s.at + (end_of c.args.item - first_of c.args.item) ≤ c.widen.new.self.spare =
     omega (
       arith,
-      c.max-self-inside.ensures,
+      c.in_ok-widen.ensures.room,
       c.len.ensures,
-      c.len-2.ensures,
       c.saturating_sub-more.ensures,
       c.end_piece.ensures.value,
       c.first_piece.ensures.value,
-      s.came.ok.0,
-      c.make_room.new.kept.ok.0,
-      ap length e.kept,
+      ap length e.came,
     ) in
-    rw (sym c.self.view_is, e.kept, c.push_reserved.ensures.items, e.done)
-    (job_handled c.args.item s.at s.space c.max-self-inside.result _ _ s.came.items _ s.kept.items s.done.items d i.at enough)
+    rw (sym c.self.view_is, c.push_reserved.ensures.items, e.done)
+    (job_handled c.args.item s.at s.kept c.widen.new.self _ _ s.came.items _ s.done.items d c.widen.ensures.items i.at enough)

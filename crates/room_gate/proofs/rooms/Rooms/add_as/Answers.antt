@@ -1,16 +1,8 @@
-use Rattle.std.proofs.Common.{◌≡◌, ◌∙◌, ◌+◌, ◌*◌, ◌%◌, ◌^◌, ap, sym, arith}
-use Rattle.room_gate.proofs.UserWords.{allowed}
+use Rattle.std.proofs.Common.{◌+◌, ◌%◌, ◌^◌, arith}
+use Rattle.room_gate.proofs.Owing.{of_user}
 use Rattle.room_gate.proofs.rooms.Rooms.add_as.Goals as goal
 
 pub fetch_add-requires : goal.fetch_add-requires
 fetch_add-requires g c =
-    let M = g.U.RoomUse.meaning in let m = g.U.RoomUse.ROOMS in
-    let seat = c.args.seat.now in let table = c.self.inside.table.shared in
-    let place : c.user_place.result ≡ 1 + 3 * m + c.args.word = omega arith in
-    let words = ap (λ s. M.words s.usage) c.self.view_is in (
-      c.requires.own ∙ ap (λ s. s.site) (sym c.self.view_is),
-      (let wide = c.self.invariant.words in let exists = c.requires.word in omega arith),
-      allowed M m c.self.inside c.self.invariant c.args.self.now c.self.view_is
-          table.table_id.slots seat.id seat.me c.args.word c.user_place.result place (λ n. (n + c.args.by) % 2 ^ 64)
-          (g.B.Tells.tells seat.me) c.requires.step,
-    )
+    of_user g.U.RoomUse.meaning g.U.RoomUse.ROOMS c.self.inside c.self.invariant c.args.self.now c.self.view_is c.args.seat.now c.requires.own c.args.word c.requires.word
+    c.user_place.result (omega arith) (λ n. (n + c.args.by) % 2 ^ 64) (g.B.Tells.tells c.args.seat.now.me) c.requires.step

@@ -3,56 +3,33 @@ use Rattle.room_rule.specs.View.{noted, learned}
 use Rattle.room_rule.specs.Told.{Seated}
 use Rattle.room_rule.specs.Looking.{looked_by}
 use Rattle.room_rule.proofs.Seats.{notes, learns}
+use Rattle.room_gate.proofs.Owing.{of_split, of_join}
 use Rattle.room_gate.proofs.Meeting.{meets}
 use Rattle.room_gate.proofs.rooms.Rooms.compare.Goals as goal
 
 pub split_seat-of_one-requires : goal.split_seat-of_one-requires
 split_seat-of_one-requires g c =
-    let seat = c.args.one.now in let table = c.self.inside.table.shared in (
-      c.requires.own.0 ∙ ap (λ s. s.site) (sym c.self.view_is),
-      (let wide = c.self.invariant.words in omega arith),
-      notes g.U.RoomUse.meaning g.U.RoomUse.ROOMS table.key seat.id seat.me.0
-          c.requires.inside.0.1.role,
-    )
+    of_split g.U.RoomUse.meaning g.U.RoomUse.ROOMS c.self.inside c.self.invariant c.args.self.now c.self.view_is c.args.one.now c.requires.own.0
+    _ _ (notes _ _ _ _ _ c.requires.inside.0.1.role)
 
 pub split_seat-of_two-requires : goal.split_seat-of_two-requires
 split_seat-of_two-requires g c =
-    let seat = c.args.two.now in let table = c.self.inside.table.shared in (
-      c.requires.own.1 ∙ ap (λ s. s.site) (sym c.self.view_is),
-      (let wide = c.self.invariant.words in omega arith),
-      notes g.U.RoomUse.meaning g.U.RoomUse.ROOMS table.key seat.id seat.me.0
-          c.requires.inside.1.1.role,
-    )
+    of_split g.U.RoomUse.meaning g.U.RoomUse.ROOMS c.self.inside c.self.invariant c.args.self.now c.self.view_is c.args.two.now c.requires.own.1
+    _ _ (notes _ _ _ _ _ c.requires.inside.1.1.role)
 
 pub join_seat-requires : goal.join_seat-requires
 join_seat-requires g c =
-    let seat = c.split_seat-of_one.new.seat in let other = c.split_seat-of_two.result in
-    let one = c.split_seat-of_one.ensures in let two = c.split_seat-of_two.ensures in
-    let table = c.self.inside.table.shared in
-    let own = ap (λ s. s.site) (sym c.self.view_is) in (
-      one.0 ∙ c.requires.own.0 ∙ own,
-      two.3 ∙ c.requires.own.1 ∙ own,
-      ap (λ (me : Seated _ _). me.1) two.4,
-      (let wide = c.self.invariant.words in omega arith),
-      learns g.U.RoomUse.meaning g.U.RoomUse.ROOMS table.key seat.id seat.me.0 other.id other.me.0
-          (ap (λ (me : Seated _ _). me.0.role) one.2 ∙ c.requires.inside.0.1.role)
-          (ap (λ (me : Seated _ _). me.0.role) two.4),
-    )
+    let mine = c.split_seat-of_one.ensures in let other = c.split_seat-of_two.ensures in
+    of_join g.U.RoomUse.meaning g.U.RoomUse.ROOMS c.self.inside c.self.invariant c.args.self.now c.self.view_is c.split_seat-of_one.new.seat (mine.0 ∙ c.requires.own.0)
+    c.split_seat-of_two.result (other.3 ∙ c.requires.own.1) (ap (λ (me : Seated _ _). me.1) other.4) _ _
+    (learns _ _ _ _ _ _ _ (ap (λ (me : Seated _ _). me.0.role) mine.2 ∙ c.requires.inside.0.1.role) (ap (λ (me : Seated _ _). me.0.role) other.4))
 
 pub join_seat-requires-2 : goal.join_seat-requires-2
 join_seat-requires-2 g c =
-    let seat = c.split_seat-of_two.new.seat in let other = c.split_seat-of_one.result in
-    let two = c.split_seat-of_two.ensures in let one = c.split_seat-of_one.ensures in
-    let table = c.self.inside.table.shared in
-    let own = ap (λ s. s.site) (sym c.self.view_is) in (
-      two.0 ∙ c.requires.own.1 ∙ own,
-      one.3 ∙ c.requires.own.0 ∙ own,
-      ap (λ (me : Seated _ _). me.1) one.4,
-      (let wide = c.self.invariant.words in omega arith),
-      learns g.U.RoomUse.meaning g.U.RoomUse.ROOMS table.key seat.id seat.me.0 other.id other.me.0
-          (ap (λ (me : Seated _ _). me.0.role) two.2 ∙ c.requires.inside.1.1.role)
-          (ap (λ (me : Seated _ _). me.0.role) one.4),
-    )
+    let mine = c.split_seat-of_two.ensures in let other = c.split_seat-of_one.ensures in
+    of_join g.U.RoomUse.meaning g.U.RoomUse.ROOMS c.self.inside c.self.invariant c.args.self.now c.self.view_is c.split_seat-of_two.new.seat (mine.0 ∙ c.requires.own.1)
+    c.split_seat-of_one.result (other.3 ∙ c.requires.own.0) (ap (λ (me : Seated _ _). me.1) other.4) _ _
+    (learns _ _ _ _ _ _ _ (ap (λ (me : Seated _ _). me.0.role) mine.2 ∙ c.requires.inside.1.1.role) (ap (λ (me : Seated _ _). me.0.role) other.4))
 
 pub returns : goal.returns
 returns g c =

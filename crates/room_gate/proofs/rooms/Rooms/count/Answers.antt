@@ -1,23 +1,14 @@
 use Rattle.std.proofs.Common.{◌∙◌, ◌+◌, ap, sym, arith}
-use Rattle.room_core.specs.declared.acts.Act.TheVariants.{Step}
-use Rattle.room_rule.specs.Told.{stepped_by}
-use Rattle.room_rule.proofs.Events.{allows_event}
 use Rattle.room_rule.proofs.Entering.{counts}
 use Rattle.room_gate.proofs.Stepping.{count_goes}
+use Rattle.room_gate.proofs.Owing.{of_load}
 use Rattle.room_gate.proofs.rooms.Rooms.count.Goals as goal
 
 pub load-requires : goal.load-requires
 load-requires g c =
-    let M = g.U.RoomUse.meaning in let m = g.U.RoomUse.ROOMS in
-    let seat = c.args.seat.now in let table = c.self.inside.table.shared in
-    let slots = table.table_id.slots in let room = c.args.room in let at = c.wait_place in (
-      c.requires.own ∙ ap (λ s. s.site) (sym c.self.view_is),
-      (let wide = c.self.invariant.words in let exists = c.requires.room in omega arith),
-      allows_event M m table.key slots seat.id seat.me at.result (1 + room) at.ensures
-          (λ n. n) (λ n after. stepped_by M m seat.me n after) Step
-          (counts M m table.key slots seat.id seat.me room c.args.ticket c.args.turn c.args.first
-          c.requires.role c.requires.room c.requires.phase),
-    )
+    of_load g.U.RoomUse.meaning g.U.RoomUse.ROOMS c.self.inside c.self.invariant c.args.self.now c.self.view_is c.args.seat.now c.requires.own
+    c.wait_place.result (1 + c.args.room) c.wait_place.ensures (omega (arith, c.requires.room))
+    (counts _ _ _ _ _ c.args.seat.now.me c.args.room c.args.ticket c.args.turn c.args.first c.requires.role c.requires.room c.requires.phase)
 
 pub returns : goal.returns
 returns g c =

@@ -1,30 +1,25 @@
 use Rattle.std.proofs.Common.{◌≡◌, ◌∙◌, ◌+◌, ◌*◌, ◌%◌, Some, ap, sym, subst, arith, mod-eq_of_lt}
 use Rattle.room_core.specs.declared.acts.Act.TheVariants.{Leave}
 use Rattle.room_rule.specs.Told.{Seated, left_by}
-use Rattle.room_rule.proofs.Events.{allows_event}
 use Rattle.room_rule.proofs.Leaving.{leaves}
 use Rattle.room_gate.proofs.Making.{none_carried}
+use Rattle.room_gate.proofs.Owing.{of_act}
 use Rattle.room_gate.proofs.LeavingSteps.{depart_goes}
 use Rattle.room_gate.proofs.rooms.Rooms.depart.Goals as goal
 
 pub fetch_add-requires : goal.fetch_add-requires
 fetch_add-requires g c =
     let M = g.U.RoomUse.meaning in let m = g.U.RoomUse.ROOMS in
-    let seat = c.args.seat.now in let table = c.self.inside.table.shared in
-    let slots = table.table_id.slots in let room = c.args.room in
-    let place : c.done_place.result ≡ 1 + 2 * m + room = omega arith in
+    let seat = c.args.seat.now in let table = c.self.inside.table.shared in let room = c.args.room in
     let usage : c.args.self.now.usage ≡ table.key.usage = ap (λ s. s.usage) (sym c.self.view_is)
-    ∙ ap (λ k. k.usage) (sym c.self.invariant.key) in (
-      c.requires.own ∙ ap (λ s. s.site) (sym c.self.view_is),
-      (let wide = c.self.invariant.words in let exists = c.requires.room in omega arith),
-      allows_event M m table.key slots seat.id seat.me c.done_place.result (1 + 2 * m + room) place
-          (λ n. (n + 1) % 18446744073709551616) (λ n after. left_by seat.me n after) Leave
-          (leaves M m table.key g.met.U.RoomUse.laws slots seat.id seat.me room c.args.ticket
-          c.args.turn c.args.to (Some c.args.first) (λ n. (n + 1) % 18446744073709551616)
-          c.requires.role c.requires.phase
-          (subst (λ x. M.may_leave x seat.me.0.user) usage c.requires.may)
-          (λ n h. mod-eq_of_lt h)),
-    )
+    ∙ ap (λ k. k.usage) (sym c.self.invariant.key) in
+    of_act M m c.self.inside c.self.invariant c.args.self.now c.self.view_is seat c.requires.own
+    c.done_place.result (1 + 2 * m + room) (omega arith) (omega (arith, c.requires.room)) (λ n. (n + 1) % 18446744073709551616) (λ n after. left_by seat.me n after) Leave
+    (leaves M m table.key g.met.U.RoomUse.laws table.table_id.slots seat.id seat.me room c.args.ticket
+    c.args.turn c.args.to (Some c.args.first) (λ n. (n + 1) % 18446744073709551616)
+    c.requires.role c.requires.phase
+    (subst (λ x. M.may_leave x seat.me.0.user) usage c.requires.may)
+    (λ n h. mod-eq_of_lt h))
 
 pub returns : goal.returns
 returns g c =

@@ -1,9 +1,7 @@
 use Rattle.std.proofs.Common.{◌≡◌, ◌∙◌, ◌+◌, ◌%◌, ◌<◌, ap, sym, subst, arith}
-use Rattle.room_core.specs.declared.acts.Act.TheVariants.{Step}
 use Rattle.room_rule.specs.Use.{RestsOn}
-use Rattle.room_rule.specs.Told.{stepped_by}
-use Rattle.room_rule.proofs.Events.{allows_event}
 use Rattle.room_rule.proofs.Leaving.{ends}
+use Rattle.room_gate.proofs.Owing.{of_load}
 use Rattle.room_gate.proofs.LeavingSteps.{end_goes}
 use Rattle.room_gate.proofs.rooms.Rooms.end_exit.Goals as goal
 
@@ -11,19 +9,16 @@ pub load-requires : goal.load-requires
 load-requires g c =
     let M = g.U.RoomUse.meaning in let m = g.U.RoomUse.ROOMS in
     let seat = c.args.seat.now in let table = c.self.inside.table.shared in
-    let slots = table.table_id.slots in let room = c.args.room in let next = c.args.next in
+    let room = c.args.room in let next = c.args.next in
     let next_is = c.requires.next in let exists = c.requires.room in
     let below : (room + 1) % m < m = omega arith in
     let usage : c.args.self.now.usage ≡ table.key.usage = ap (λ s. s.usage) (sym c.self.view_is)
-    ∙ ap (λ k. k.usage) (sym c.self.invariant.key) in (
-      c.requires.own ∙ ap (λ s. s.site) (sym c.self.view_is),
-      (let wide = c.self.invariant.words in omega arith),
-      allows_event M m table.key slots seat.id seat.me c.wait_place.result (1 + next)
-          c.wait_place.ensures (λ n. n) (λ n after. stepped_by M m seat.me n after) Step
-          (ends M m table.key g.met.U.RoomUse.laws slots seat.id seat.me room c.args.turn next
-          c.requires.role (omega arith) c.requires.phase next_is
-          (subst (λ x. RestsOn M x seat.me.0.kept seat.me.0.user) usage c.requires.rests)),
-    )
+    ∙ ap (λ k. k.usage) (sym c.self.invariant.key) in
+    of_load M m c.self.inside c.self.invariant c.args.self.now c.self.view_is seat c.requires.own
+    c.wait_place.result (1 + next) c.wait_place.ensures (omega arith)
+    (ends M m table.key g.met.U.RoomUse.laws table.table_id.slots seat.id seat.me room c.args.turn next
+    c.requires.role (omega arith) c.requires.phase next_is
+    (subst (λ x. RestsOn M x seat.me.0.kept seat.me.0.user) usage c.requires.rests))
 
 pub returns : goal.returns
 returns g c =

@@ -1,23 +1,14 @@
 use Rattle.std.proofs.Common.{◌≡◌, ◌∙◌, ◌+◌, None, ap, sym, arith}
-use Rattle.room_core.specs.declared.acts.Act.TheVariants.{Step}
-use Rattle.room_rule.specs.Told.{stepped_by}
-use Rattle.room_rule.proofs.Events.{allows_event}
 use Rattle.room_rule.proofs.Leaving.{opens_out}
 use Rattle.room_gate.proofs.LeavingSteps.{open_out_goes}
+use Rattle.room_gate.proofs.Owing.{of_store}
 use Rattle.room_gate.proofs.rooms.Rooms.open_out.Goals as goal
 
 pub store-requires : goal.store-requires
 store-requires g c =
-    let M = g.U.RoomUse.meaning in let m = g.U.RoomUse.ROOMS in
-    let seat = c.args.seat.now in let table = c.self.inside.table.shared in
-    let slots = table.table_id.slots in let room = c.args.chosen in let to = c.args.to in
-    let place : c.grant_place.result ≡ 1 + m + room = omega arith in (
-      c.requires.own ∙ ap (λ s. s.site) (sym c.self.view_is),
-      (let wide = c.self.invariant.words in let exists = c.requires.room in omega arith),
-      allows_event M m table.key slots seat.id seat.me c.grant_place.result (1 + m + room) place (λ _. to) (λ _ after. stepped_by M m seat.me to after) Step
-          (opens_out M m table.key g.met.U.RoomUse.laws slots seat.id seat.me room c.args.turn to to None c.requires.role c.requires.room
-          c.requires.phase),
-    )
+    of_store g.U.RoomUse.meaning g.U.RoomUse.ROOMS c.self.inside c.self.invariant c.args.self.now c.self.view_is c.args.seat.now c.requires.own
+    c.args.to c.grant_place.result (1 + g.U.RoomUse.ROOMS + c.args.chosen) (omega arith) (omega (arith, c.requires.room))
+    (opens_out _ _ _ g.met.U.RoomUse.laws _ _ c.args.seat.now.me c.args.chosen c.args.turn c.args.to c.args.to None c.requires.role c.requires.room c.requires.phase)
 
 pub returns : goal.returns
 returns g c =

@@ -1,24 +1,15 @@
 use Rattle.std.proofs.Common.{◌≡◌, ◌∙◌, refl, ap, sym, arith}
-use Rattle.room_core.specs.declared.acts.Act.TheVariants.{Step}
 use Rattle.room_core.specs.Active.{pack}
-use Rattle.room_rule.specs.Told.{stepped_by}
-use Rattle.room_rule.proofs.Events.{allows_event}
 use Rattle.room_rule.proofs.Leaving.{passes_idle}
 use Rattle.room_gate.proofs.LeavingSteps.{pass_idle_goes}
+use Rattle.room_gate.proofs.Owing.{of_store}
 use Rattle.room_gate.proofs.rooms.Rooms.pass_idle.Goals as goal
 
 pub store-requires : goal.store-requires
 store-requires g c =
-    let M = g.U.RoomUse.meaning in let m = g.U.RoomUse.ROOMS in
-    let seat = c.args.seat.now in let table = c.self.inside.table.shared in
-    let slots = table.table_id.slots in let turn = c.args.turn in
-    let idle = c.pack-idle.result in
-    let idle_is : idle ≡ pack turn 0 = c.pack-idle.ensures in (
-      c.requires.own ∙ ap (λ s. s.site) (sym c.self.view_is),
-      (let wide = c.self.invariant.words in omega arith),
-      allows_event M m table.key slots seat.id seat.me 0 0 refl (λ _. idle) (λ _ after. stepped_by M m seat.me idle after) Step
-          (passes_idle M m table.key slots seat.id seat.me turn idle idle c.requires.role c.requires.phase idle_is),
-    )
+    of_store g.U.RoomUse.meaning g.U.RoomUse.ROOMS c.self.inside c.self.invariant c.args.self.now c.self.view_is c.args.seat.now c.requires.own
+    c.pack-idle.result 0 0 refl (omega arith)
+    (passes_idle _ _ _ _ _ c.args.seat.now.me c.args.turn c.pack-idle.result c.pack-idle.result c.requires.role c.requires.phase c.pack-idle.ensures)
 
 pub returns : goal.returns
 returns g c =

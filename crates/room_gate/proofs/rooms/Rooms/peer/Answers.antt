@@ -1,23 +1,14 @@
 use Rattle.std.proofs.Common.{◌≡◌, ◌∙◌, ◌+◌, ap, sym, arith}
-use Rattle.room_core.specs.declared.acts.Act.TheVariants.{Step}
-use Rattle.room_rule.specs.Told.{stepped_by}
-use Rattle.room_rule.proofs.Events.{allows_event}
 use Rattle.room_rule.proofs.Leaving.{peers}
 use Rattle.room_gate.proofs.LeavingSteps.{peer_goes}
+use Rattle.room_gate.proofs.Owing.{of_load}
 use Rattle.room_gate.proofs.rooms.Rooms.peer.Goals as goal
 
 pub load-requires : goal.load-requires
 load-requires g c =
-    let M = g.U.RoomUse.meaning in let m = g.U.RoomUse.ROOMS in
-    let seat = c.args.seat.now in let table = c.self.inside.table.shared in
-    let slots = table.table_id.slots in let room = c.args.scanned in
-    let place : c.grant_place.result ≡ 1 + m + room = omega arith in (
-      c.requires.own ∙ ap (λ s. s.site) (sym c.self.view_is),
-      (let wide = c.self.invariant.words in let exists = c.requires.room in omega arith),
-      allows_event M m table.key slots seat.id seat.me c.grant_place.result (1 + m + c.args.scanned) place (λ n. n) (λ n after. stepped_by M m seat.me n after) Step
-          (peers M m table.key slots seat.id seat.me c.args.room c.args.turn c.args.scanned
-          c.args.drawn c.requires.role c.requires.phase),
-    )
+    of_load g.U.RoomUse.meaning g.U.RoomUse.ROOMS c.self.inside c.self.invariant c.args.self.now c.self.view_is c.args.seat.now c.requires.own
+    c.grant_place.result (1 + g.U.RoomUse.ROOMS + c.args.scanned) (omega arith) (omega (arith, c.requires.room))
+    (peers _ _ _ _ _ c.args.seat.now.me c.args.room c.args.turn c.args.scanned c.args.drawn c.requires.role c.requires.phase)
 
 pub returns : goal.returns
 returns g c =

@@ -6,13 +6,11 @@ use Rattle.room_gate.proofs.rooms.Rooms.store.Goals as goal
 
 pub store_as-requires-clause-step : goal.store_as-requires-clause-step
 store_as-requires-clause-step g c =
-    let M = g.U.RoomUse.meaning in let then = g.M.Outcome.then c.args.what.now in
-    let me = c.inside.inside.seat.me in
-    steps_of M g.U.RoomUse.ROOMS g.met.U.RoomUse.laws c.args.self.now
-    c.args.word c.requires.word then c.inside.inside c.inside.invariant c.args.inside.now
-    c.inside.view_is (λ _. c.args.value) (λ _. c.args.value) any
-    (λ _. stored M c.args.self.now.usage c.args.word then me c.args.value) c.requires.can
-    (λ n _ _. refl) (λ n u carried has t made. (refl, has, (n, t, made)))
+    steps_of g.U.RoomUse.meaning g.U.RoomUse.ROOMS g.met.U.RoomUse.laws c.args.self.now c.args.word c.requires.word
+    (g.M.Outcome.then c.args.what.now) c.inside.inside c.inside.invariant c.args.inside.now c.inside.view_is
+    (λ _. c.args.value) (λ _. c.args.value) any
+    (λ _. stored g.U.RoomUse.meaning c.args.self.now.usage c.args.word (g.M.Outcome.then c.args.what.now) c.inside.inside.seat.me c.args.value)
+    c.requires.can (λ n _ _. refl) (λ n u carried has t made. (refl, has, (n, t, made)))
 
 pub returns-clause-told : goal.returns-clause-told
 returns-clause-told g c =
