@@ -25,6 +25,7 @@ use Rattle.bay_store.specs.Sharing.{view_calling, calling, acting}
 use Rattle.bay_store.specs.Acting.{KeepsLoaded, Spills, AddsNone}
 use Rattle.bay_store.specs.Adding.{Known, known}
 use Rattle.bay_store.specs.Calls.{MayRepeat}
+use Rattle.bay_store.specs.declared.rooms.TheConstants.{ROOMS}
 use Rattle.bay_store.specs.declared.acts.BayHandful.{BayHandful}
 use Rattle.bay_store.specs.declared.receipts.Handful.{Handful}
 use Rattle.bay_store.specs.declared.receipts.Stop.{Stop}
@@ -110,9 +111,9 @@ pub record IsActedSome (x : BayUse) (i : Actor) (h : BayHandful) : Type 0 where
   pub draws : DrawsSome x (items_of i.wish) i.insider.caller.who h.turn h.rank h.stored h.stop
       i.insider.caller.user h.done.insider.caller.user
   pub turn : h.turn ≡ i.insider.opening.turn
-  -- its turn came at most four turns after the caller's first look
+  -- its turn came at most as many turns after the caller's first look as there are rooms
   pub first : h.done.insider.caller.first ≡ Some h.first
-  pub soon : h.turn ≤ h.first + 4
+  pub soon : h.turn ≤ h.first + ROOMS
   pub owes : h.done.owes + h.stored ≡ length (items_of i.wish)
   pub share : length (items_of i.wish) ≤ i.insider.caller.user.held
   pub same : h.done.insider
@@ -127,7 +128,7 @@ pub record Puts (x : BayUse) (items : List ℕ) (stored : ℕ) (stop : Stop)
   pub first : ℕ
   pub draws : DrawsSome x items before.who turn rank stored stop before.user now.user
   pub looked : now.first ≡ Some first
-  pub soon : turn ≤ first + 4
+  pub soon : turn ≤ first + ROOMS
   pub same : now ≡ calling before now (before.draws + 1) before.user.held
 
 -- a try at a handful, by what stopped it: with no draw left nothing is changed

@@ -1,7 +1,7 @@
 -- What a caller asks for.
 use Rattle.std.specs.Prelude.{ℕ, List, [], length}
 use Rattle.bay_core.specs.declared.calls.Op.{Op}
-use Rattle.bay_core.specs.declared.calls.Op.TheVariants.{Push, Pop, Enq, Deq}
+use Rattle.bay_core.specs.declared.calls.Op.TheVariants.{Push, Pop, Enq, Deq, Peek, Sizes}
 use Rattle.bay_store.specs.declared.wishes.Wish.{Wish}
 use Rattle.bay_store.specs.declared.wishes.Wish.TheVariants.{One, Several}
 
@@ -36,4 +36,6 @@ shares_of (One Push item) = 1
 shares_of (One Pop item) = 0
 shares_of (One Enq item) = 1
 shares_of (One Deq item) = 0
+shares_of (One Peek item) = 0
+shares_of (One Sizes item) = 0
 shares_of (Several items) = length items

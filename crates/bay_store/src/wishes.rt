@@ -31,7 +31,7 @@ pub(crate) fn shares_of(wish: &Wish) -> u64
 {
     match wish {
         Wish::One(Op::Push | Op::Enq, _) => 1,
-        Wish::One(Op::Pop | Op::Deq, _) => 0,
+        Wish::One(Op::Pop | Op::Deq | Op::Peek | Op::Sizes, _) => 0,
         Wish::Several(items) => items.len() as u64,
     }
 }

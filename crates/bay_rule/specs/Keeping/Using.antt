@@ -1,5 +1,5 @@
 -- For what a caller has used its draws after one more.
-use Rattle.std.proofs.Common.{◌≡◌, ℕ, ◌+◌, ◌*◌, ◌<◌, ◌≤◌, Bool, true, false, List, ◌∷◌, length, ap, arith}
+use Rattle.std.proofs.Common.{◌≡◌, ℕ, ◌+◌, ◌<◌, ◌≤◌, Bool, true, false, List, ◌∷◌, length, ap, arith}
 use Rattle.bay_core.specs.declared.calls.Op.{Op}
 use Rattle.bay_core.specs.declared.calls.Op.TheVariants.{Push, Pop, Enq, Deq, Peek, Sizes}
 use Rattle.bay_core.specs.declared.calls.Noted.{Noted}
