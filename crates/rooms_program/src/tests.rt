@@ -15,6 +15,7 @@ use work_pool::{Gate, OpenGate};
 
 mod hostile;
 mod large;
+mod trials;
 
 /// The bytes of an image of format 1: its magic, and then these numbers.
 fn image(alloc: Global, numbers: &[u64]) -> Result<Vec<u8>, AllocError> {
@@ -630,67 +631,6 @@ fn schedule_refuses_texts_and_acts(rt: HostRuntime) -> Result<(), Fail> {
             assert!(rt; ended.sink.written().is_empty());
             assert_eq!(rt; ended.notes.written(), note.as_bytes());
         }
-    }
-    Ok(())
-}
-
-#[test]
-fn trial_prints_what_its_callers_did(rt: HostRuntime) -> Result<(), Fail> {
-    let alloc = rt.alloc();
-    let pops =
-        "trial 1\nlayout split\nblocks 1\ndraws 100\ncaller\npop\npush 5\npush 5\npop\npop\npop\n";
-    let spent = "trial 1\nlayout split\nblocks 1\ndraws 2\ncaller\npush 1\npop\npop\n";
-    let idle = "trial 1\nlayout split\nblocks 1\ndraws 1\ncaller\n";
-    let paged = "trial 1\nlayout paged\nblocks 2\ndraws 100\ncaller\npush 5\npop\n";
-    let overflow = "trial 1\nlayout paged\nblocks 2\ndraws 1\ncaller\npush 5\n";
-    let cases = [
-        (
-            pops,
-            "1 4294967296 0 pop - empty\n2 4294967296 0 push 5 ok\n3 4294967297 0 push 5 ok\n4 4294967294 0 pop - 5\n5 4294967295 0 pop - 5\n6 4294967296 0 pop - empty\ncaller 0 answered 6 of 6\nstack\nqueue\n",
-        ),
-        (
-            spent,
-            "1 4294967296 0 push 1 ok\n2 4294967295 0 pop - 1\ncaller 0 answered 2 of 3\nstack\nqueue\n",
-        ),
-        (idle, "caller 0 answered 0 of 0\nstack\nqueue\n"),
-        (
-            paged,
-            "2 4294967296 0 push 5 ok\n3 4294967295 0 pop - 5\ncaller 0 answered 2 of 2\nstack\nqueue\n",
-        ),
-        (overflow, "caller 0 answered 0 of 1\nstack\nqueue\n"),
-    ];
-    for (text, output) in cases {
-        let ended = Attempt::new(&["trial"], text.as_bytes()).ended(&rt, alloc)?;
-        assert_eq!(rt; ended.status, Status::Good);
-        assert_eq!(rt; ended.sink.written(), output.as_bytes());
-        assert!(rt; ended.notes.written().is_empty());
-    }
-    Ok(())
-}
-
-#[test]
-fn trial_refuses_texts(rt: HostRuntime) -> Result<(), Fail> {
-    let alloc = rt.alloc();
-    let long = vec![in alloc; b'\n'; 1_048_577]?;
-    let cases = [
-        (b"".as_slice(), Status::Script(1), "script line 1\n"),
-        (
-            b"trial 1\nlayout torn\n".as_slice(),
-            Status::Script(2),
-            "script line 2\n",
-        ),
-        (
-            b"trial 1\nlayout paged\nblocks 1\n".as_slice(),
-            Status::Script(3),
-            "script line 3\n",
-        ),
-        (long.as_slice(), Status::TooLong, "text too long\n"),
-    ];
-    for (text, refusal, note) in cases {
-        let ended = Attempt::new(&["trial"], text).ended(&rt, alloc)?;
-        assert_eq!(rt; ended.status, refusal);
-        assert!(rt; ended.sink.written().is_empty());
-        assert_eq!(rt; ended.notes.written(), note.as_bytes());
     }
     Ok(())
 }
