@@ -4,7 +4,8 @@
 It reads the text from standard input, or from the file that is named: a line for each entry, `TURN
 RANK WHO OP ARG REPLY`, then lines `caller C answered K of L` if there are any, then a line `stack`
 and a line `queue` with the items of the lists at the end, and any lines `live N`. It prints
-`ok N entries`, or the first fault, with status 1. --layout and --blocks say what bay it is of. With split
+`ok N entries`, or the first fault, with status 1. A turn is of one room: peeks and looks at both lengths,
+`sizes`, share one, and each may see only what the entries before it leave. --layout and --blocks say what bay it is of. With split
 each list has 32 cells for each block, and a put is answered full exactly where its list has as many
 items. With paged both lists share the blocks, of 64 cells each: a put is answered ok only where the
 blocks that the items need, this one among them, are there, and full only where the list's last
@@ -23,7 +24,10 @@ import sys
 FIRST_OF_STACK = 2**32
 BLOCK = 64
 PUTS = ("push", "enq")
-OPERATIONS = ("push", "pop", "enq", "deq")
+# the room of each operation
+ROOMS = {"push": 0, "pop": 1, "enq": 2, "deq": 3, "peek": 4, "sizes": 4}
+LOOKS = ("peek", "sizes")
+TITLES = ("trial 1", "trial 2")
 
 
 class Fault(Exception):
@@ -70,6 +74,8 @@ class Bay:
             "pop": FIRST_OF_STACK - len(self.stack),
             "enq": self.taken + len(self.queue),
             "deq": self.taken,
+            "peek": 0,
+            "sizes": 0,
         }[operation]
 
     def reply(self, operation, item, answered):
@@ -82,6 +88,10 @@ class Bay:
             items = self.stack if operation == "push" else self.queue
             items.append(item)
             return "ok"
+        if operation == "peek":
+            return str(self.stack[-1]) if self.stack else "empty"
+        if operation == "sizes":
+            return f"{len(self.stack)}/{len(self.queue)}"
         items = self.stack if operation == "pop" else self.queue
         if not items:
             return "empty"
@@ -107,7 +117,7 @@ def check_entry(bay, words, before, calls):
         raise Fault("an entry has six words")
     turn, rank, who = number(words[0]), number(words[1]), number(words[2])
     operation, argument, reply = words[3:]
-    if operation not in OPERATIONS:
+    if operation not in ROOMS:
         raise Fault(f"no operation {operation!r}")
     if (operation in PUTS) == (argument == "-"):
         raise Fault(f"argument {argument!r} of {operation}")
@@ -116,8 +126,8 @@ def check_entry(bay, words, before, calls):
     if before is not None and (turn, rank) <= before[:2]:
         raise Fault("turn and rank do not rise")
     if before is not None and turn == before[0]:
-        if operation != before[2]:
-            raise Fault("two operations in one turn")
+        if ROOMS[operation] != ROOMS[before[2]]:
+            raise Fault("two rooms in one turn")
         if rank != before[1] + 1:
             raise Fault(f"rank {rank} after {before[1]} in one turn")
     elif rank != bay.first_rank(operation):
@@ -150,7 +160,7 @@ class Trial:
     def __init__(self, text):
         lines = text.removesuffix("\n").split("\n")
         layouts = {"layout split": "split", "layout paged": "paged"}
-        if lines[0] != "trial 1" or lines[1] not in layouts or lines[4:5] != ["caller"]:
+        if lines[0] not in TITLES or lines[1] not in layouts or lines[4:5] != ["caller"]:
             raise Fault("no trial")
         self.layout = layouts[lines[1]]
         self.blocks, self.draws = (number(line.split(" ")[1]) for line in lines[2:4])
@@ -158,6 +168,8 @@ class Trial:
         for line in lines[4:]:
             if line == "caller":
                 self.scripts.append([])
+            elif line in LOOKS and lines[0] == TITLES[0]:
+                raise Fault(f"a line {line} in a text of the first form")
             else:
                 self.scripts[-1].append(line)
 

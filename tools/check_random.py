@@ -148,13 +148,15 @@ def trial(chance):
     limit = chance.choice([1, 2, 5, 20, 1000, 2**48])
     if chance.random() < 0.1:
         blocks, limit = chance.choice(EDGES), chance.choice(EDGES)
-    lines = ["trial 1", f"layout {layout}", f"blocks {spelled(chance, min(blocks, 20000))}", f"draws {spelled(chance, limit)}"]
+    form = chance.choice([1, 2])
+    looks = ["peek", "sizes"] if form == 2 or chance.random() < 0.05 else []
+    lines = [f"trial {form}", f"layout {layout}", f"blocks {spelled(chance, min(blocks, 20000))}", f"draws {spelled(chance, limit)}"]
     long = chance.choice([0, 1, 3, 8, 40])
     for _ in range(chance.choice([1, 1, 2, 3, 4]) if chance.random() < 0.98 else chance.choice([63, 64, 65])):
         lines.append("caller")
         for _ in range(chance.randint(0, long)):
             item = spelled(chance, chance.choice([chance.randrange(100), *EDGES]))
-            lines.append(chance.choice([f"push {item}", f"push {item}", "pop", f"enq {item}", f"enq {item}", "deq"]))
+            lines.append(chance.choice([f"push {item}", f"push {item}", "pop", f"enq {item}", f"enq {item}", "deq", *looks]))
     return text(chance, lines)
 
 
@@ -164,7 +166,7 @@ def text(chance, lines):
     if kind == 0 and lines:
         del lines[chance.randrange(len(lines))]
     elif kind == 1:
-        lines.insert(chance.randrange(len(lines) + 1), chance.choice(["", " ", "caller", "pop", "step 0", *lines[:5]]))
+        lines.insert(chance.randrange(len(lines) + 1), chance.choice(["", " ", "caller", "pop", "peek", "step 0", *lines[:5]]))
     data = "".join(f"{line}\n" for line in lines).encode()
     if kind == 2:
         data = changed_bytes(chance, data)

@@ -15,7 +15,8 @@ import argparse
 import sys
 from html import escape
 
-ROOMS = {"push": 0, "pop": 1, "enq": 2, "deq": 3}
+ROOMS = {"push": 0, "pop": 1, "enq": 2, "deq": 3, "peek": 4, "sizes": 4}
+NAMES = ["push", "pop", "enq", "deq", "looks"]
 COLOURS = ["#2f6f9f", "#c2571a", "#3b7d3b", "#7a4b94", "#9c7a12", "#197878", "#a03050"]
 PALE = ["#d5e6f2", "#f8e0d0", "#d9ecd9", "#e8dcef", "#f3ead0", "#d2ebeb", "#f3d8de"]
 INK, EXIT, GRID = "#222222", "#333333", "#bbbbbb"
@@ -116,7 +117,7 @@ def draw_history(lines):
         pale, strong = ("#eeeeee", GRID) if room is None else (PALE[room], COLOURS[room])
         picture.box(x, TOP, wide, bottom - TOP, pale)
         picture.box(x, TOP, wide, HEAD - 8, strong)
-        name = entries[0][2] if entries else "no entry"
+        name = NAMES[room] if entries else "no entry"
         picture.text(x + wide / 2, TOP + 20, f"turn {turn}: {name}", 12, fill="#ffffff", bold=True)
         if turn < last:
             picture.box(x + wide + 5, TOP, gap - 10, bottom - TOP, EXIT)
@@ -129,7 +130,9 @@ def draw_history(lines):
     rows(picture, callers, first, LEFT + last * (wide + gap) - gap)
     for at, words in enumerate(lists):
         picture.text(LEFT, bottom + 24 + 18 * at, f"left at the close: {words}", 12, "start")
-    kinds = [(PALE[at], COLOURS[at], False, f"turn of {name}") for name, at in ROOMS.items()]
+    looks = any(entry[2] in ("peek", "sizes") for entries in turns.values() for entry in entries)
+    named = NAMES if looks else NAMES[:-1]
+    kinds = [(PALE[at], COLOURS[at], False, f"turn of {name}") for at, name in enumerate(named)]
     picture.legend(bottom + 32 + 18 * len(lists), [*kinds, (EXIT, "none", False, "exit code")])
     return picture
 

@@ -268,18 +268,19 @@ def read_trial(text):
     lines = lines_of(text)
     layouts = {b"layout split": "split", b"layout paged": "paged"}
     layout = layouts.get(lines[1]) if len(lines) > 1 else None
-    _, layout, blocks, limit, _ = heading(lines, [
-        lambda line: True if line == b"trial 1" else None,
+    form, layout, blocks, limit, _ = heading(lines, [
+        lambda line: named(line, b"trial", 1, 2),
         layouts.get,
         lambda line: named(line, b"blocks", 2 if layout == "paged" else 1, 2**14),
         lambda line: named(line, b"draws", 1, 2**48),
         lambda line: True if line == b"caller" else None])
+    bare = (b"pop", b"deq") if form == 1 else (b"pop", b"deq", b"peek", b"sizes")
     scripts = []
     for place, line in enumerate(lines[4:], 5):
         parts = line.split(b" ")
         if line == b"caller" and len(scripts) < 64:
             scripts.append([])
-        elif line in (b"pop", b"deq") or named(line, parts[0], 0, 2**64 - 1) is not None and parts[0] in (b"push", b"enq"):
+        elif line in bare or named(line, parts[0], 0, 2**64 - 1) is not None and parts[0] in (b"push", b"enq"):
             scripts[-1].append(line)
         else:
             raise Refusal(6, f"script line {place}")

@@ -2,7 +2,7 @@
 ghost use Rattle.std.specs.Prelude.{◌≤◌, IfSome};
 ghost use Rattle.room_script.specs.Trials.{IsBlocks};
 
-use crate::meetings::Meeting;
+use crate::meetings::{Meeting, tenths};
 use crate::words::Blocks;
 use bay_crew::{Turn, timed_handfuls};
 use std::alloc::Global;
@@ -84,11 +84,4 @@ fn time<R: Threads + Wait + Sync + Clock + Eprint>(
         "mixed"
     };
     eprintln!(rt; "{name} threads {threads} run 32 ns_per_op {whole}.{tenth}")
-}
-
-// The nanoseconds of one of so many calls, as whole ones and tenths, or 0 where there were none.
-fn tenths(taken: u64, calls: u64) -> (u128, u128) {
-    let all = u128::from(taken) * 10;
-    let each = all.checked_div(u128::from(calls)).unwrap_or(0);
-    (each / 10, each % 10)
 }

@@ -7,6 +7,12 @@
 //! two more may stand, `split` or `paged` and the number of blocks; without them it is `split 64`. With
 //! no word it makes small histories and checks them.
 //!
+//! With the words `readers N` it writes what a call takes where each thread looks N times at the top item of
+//! the stack, and with `beside N` where one thread puts an item and takes one by turns, N calls in all, and
+//! each other thread looks N times; the numbers of threads and further words are as above. Each thread puts
+//! an item before. The clock starts when the bay is set up and all threads have come, and stops when all are
+//! done.
+//!
 //! With the words `handfuls N` it writes what an item takes where all threads together put N items on the
 //! stack by handfuls of 32, with 1, 2 and 4 threads, and none is taken; with `mixed N` each thread takes
 //! 32 items one by one after each handful, and a put of an item is one operation and a take another. The
@@ -20,6 +26,7 @@ ghost use Rattle.bay_bench.specs.Words.{HasBay};
 
 mod handfuls;
 mod histories;
+mod looks;
 mod meetings;
 mod timing;
 mod words;
@@ -51,6 +58,9 @@ fn main(rt: HostRuntime) -> ExitCode {
         }
         Ok(Some(Command::Handfuls(turn, items, threads, blocks))) => {
             handfuls::time_all(&rt, rt.alloc(), blocks, turn, items, threads)
+        }
+        Ok(Some(Command::Looks(crowd, calls, threads, blocks))) => {
+            looks::time_all(&rt, rt.alloc(), blocks, crowd, calls, threads)
         }
         Ok(Some(Command::Try)) => histories::try_histories(&rt, rt.alloc()),
         Ok(None) => return refused(&rt),

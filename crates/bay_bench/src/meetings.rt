@@ -10,6 +10,13 @@ use std::time::{Clock, Instant};
 /// How often a caller looks whether all have come: a second and more.
 const MOST_LOOKS: u32 = 10_000_000;
 
+/// The nanoseconds of one of so many calls, as whole ones and tenths, or 0 where there were none.
+pub fn tenths(taken: u64, calls: u64) -> (u128, u128) {
+    let all = u128::from(taken) * 10;
+    let each = all.checked_div(u128::from(calls)).unwrap_or(0);
+    (each / 10, each % 10)
+}
+
 /// Holds callers until all have come, and notes then and when the last is done.
 #[derive(Drop)]
 pub struct Meeting<'a, R> {

@@ -4,7 +4,7 @@ ghost use Rattle.room_script.specs.Trials.{IsBlocks};
 ghost use Rattle.bay_bench.specs.Words.{HasBay};
 
 use bay_core::{Layout, MOST_BLOCKS};
-use bay_crew::{Mix, Turn};
+use bay_crew::{Crowd, Mix, Turn};
 
 /// The most threads.
 const MOST_THREADS: u32 = 64;
@@ -32,6 +32,9 @@ pub enum Command {
     /// To time handfuls, by which all threads together put so many items, at most 32 for each block, with
     /// so many threads, up to 64, or else with the usual numbers of them.
     Handfuls(Turn, u32, Option<u32>, Blocks),
+    /// To time so many calls of each thread, which look at the top item of the stack, with so many threads,
+    /// up to 64, or else with the usual numbers of them.
+    Looks(Crowd, u32, Option<u32>, Blocks),
     /// To check small histories.
     Try,
 }
@@ -114,7 +117,7 @@ fn three_words(name: &str, first: &str, second: &str, blocks: Blocks) -> Option<
     }
 }
 
-// The command to time calls on a list, or handfuls.
+// The command to time calls on a list, looks, or handfuls.
 fn time_of(name: &str, items: &str, threads: Option<u32>, blocks: Blocks) -> Option<Command>
     requires blocks { IsBlocks blocks.layout blocks.count }
     requires threads { IfSome threads (λ number. number ≤ 64) }
@@ -124,6 +127,8 @@ fn time_of(name: &str, items: &str, threads: Option<u32>, blocks: Blocks) -> Opt
     match name {
         "stack" => Some(Command::Time(Mix::Stack, items, threads, blocks)),
         "queue" => Some(Command::Time(Mix::Queue, items, threads, blocks)),
+        "readers" => Some(Command::Looks(Crowd::Readers, items, threads, blocks)),
+        "beside" => Some(Command::Looks(Crowd::Beside, items, threads, blocks)),
         _ => handfuls_of(turn_of(name)?, items, threads, blocks),
     }
 }

@@ -12,7 +12,7 @@ use Rattle.room_gate.specs.Making.{ArePasses}
 use Rattle.bay_core.specs.declared.calls.Layout.{Layout}
 use Rattle.bay_core.specs.declared.calls.Layout.TheVariants.{Split, Paged}
 use Rattle.bay_core.specs.declared.calls.Op.{Op}
-use Rattle.bay_core.specs.declared.calls.Op.TheVariants.{Push, Pop, Enq, Deq}
+use Rattle.bay_core.specs.declared.calls.Op.TheVariants.{Push, Pop, Enq, Deq, Peek, Sizes}
 use Rattle.bay_rule.specs.declared.bay_use.BayUse.{BayUse}
 use Rattle.bay_store.specs.Calls.{MayRepeat, Calls, StaysOut}
 use Rattle.bay_store.specs.declared.receipts.Receipt.{Receipt}
@@ -72,6 +72,8 @@ by_op Push again r = r
 by_op Pop again r = r
 by_op Enq again r = r
 by_op Deq again r = r
+by_op Peek again r = r
+by_op Sizes again r = r
 
 pub never_again : (op : Op) (layout : Layout) (again : ℕ) → layout ≡ Split → MayRepeat op layout again → again ≡ 0
 never_again op layout again split may = by_op op again (subst (λ l. MayRepeat op l again) split may)

@@ -1,3 +1,4 @@
 pub mod Handfuls
 pub mod Mixes
 pub mod Timings
+pub mod Looks

@@ -3,6 +3,7 @@
 
 mod crews;
 mod handfuls;
+mod looks;
 mod mixes;
 mod scripts;
 mod timings;
@@ -10,6 +11,7 @@ mod watches;
 
 pub use crews::crew;
 pub use handfuls::{Turn, timed_handfuls};
+pub use looks::{Crowd, timed_looks};
 pub use mixes::Mix;
 pub use timings::timed;
 pub use watches::Watch;

@@ -1,5 +1,5 @@
 //! Two callers in threads.
-use crate::{Mix, Turn, Watch, crew, timed, timed_handfuls};
+use crate::{Crowd, Mix, Turn, Watch, crew, timed, timed_handfuls, timed_looks};
 use bay_core::Layout;
 use room_history::{check, merge};
 use std::sync::atomic::{AtomicU64, Ordering};
@@ -67,5 +67,24 @@ fn callers_come_back_from_handfuls(rt: HostRuntime) -> Result<(), Fail> {
     }
     assert_eq!(rt; counts.begun.load(Ordering::SeqCst), 16);
     assert_eq!(rt; counts.ended.load(Ordering::SeqCst), 16);
+    Ok(())
+}
+
+#[test]
+fn readers_come_back_alone_and_beside_a_writer(rt: HostRuntime) -> Result<(), Fail> {
+    let counts = Counts {
+        begun: AtomicU64::new(0),
+        ended: AtomicU64::new(0),
+    };
+    for layout in [Layout::Split, Layout::Paged] {
+        for crowd in [Crowd::Readers, Crowd::Beside] {
+            assert_eq!(rt;
+                timed_looks(&rt, rt.alloc(), layout, 2, 2, 50, crowd, &counts)?,
+                100
+            );
+        }
+    }
+    assert_eq!(rt; counts.begun.load(Ordering::SeqCst), 8);
+    assert_eq!(rt; counts.ended.load(Ordering::SeqCst), 8);
     Ok(())
 }

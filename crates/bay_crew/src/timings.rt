@@ -17,7 +17,7 @@ use std::thread;
 use std::thread::Threads;
 
 // Makes one call, and answers how many it made: 1 if it was answered with an entry, and else 0.
-fn call_once<R: Wait>(rt: &R, bay: &Bay, pass: BayPass, line: Line) -> (BayPass, u64)
+pub(crate) fn call_once<R: Wait>(rt: &R, bay: &Bay, pass: BayPass, line: Line) -> (BayPass, u64)
     requires { CanCall bay.now.usage.layout bay.now.site 1 pass }
     ensures { Repeats bay.now.usage.layout 1 1 pass result.0 result.1 }
 {

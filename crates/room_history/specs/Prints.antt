@@ -2,9 +2,10 @@
 use Rattle.std.specs.Prelude.{ℕ, List, ◌++◌, codes, decimal}
 use Rattle.std.specs.List.{flat_map}
 use Rattle.bay_core.specs.declared.calls.Op.{Op}
-use Rattle.bay_core.specs.declared.calls.Op.TheVariants.{Push, Pop, Enq, Deq}
+use Rattle.bay_core.specs.declared.calls.Op.TheVariants.{Push, Pop, Enq, Deq, Peek, Sizes}
 use Rattle.bay_core.specs.declared.calls.Reply.{Reply}
 use Rattle.bay_core.specs.declared.calls.Reply.TheVariants.{Done, Full, Item, Empty}
+use Rattle.bay_core.specs.declared.calls.Reply.TheVariants as replies
 use Rattle.bay_core.specs.declared.calls.Entry.{Entry}
 use Rattle.bay_core.specs.Contents.{Contents}
 
@@ -14,6 +15,8 @@ call_words Push item = codes "push " ++ decimal item
 call_words Pop item = codes "pop -"
 call_words Enq item = codes "enq " ++ decimal item
 call_words Deq item = codes "deq -"
+call_words Peek item = codes "peek -"
+call_words Sizes item = codes "sizes -"
 
 -- what is answered
 abbrev pub reply_word : Reply → List ℕ
@@ -21,6 +24,7 @@ reply_word Done = codes "ok"
 reply_word Full = codes "full"
 reply_word (Item item) = decimal item
 reply_word Empty = codes "empty"
+reply_word (replies.Sizes stack queue) = decimal stack ++ (codes "/" ++ decimal queue)
 
 -- an entry up to its reply: the turn, the rank, the caller and the call
 abbrev pub front_words : Entry → List ℕ

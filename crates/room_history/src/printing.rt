@@ -8,8 +8,9 @@ use std::alloc::{AllocError, Global};
 use std::fmt::Write;
 
 /// A line for each entry, in their order: `TURN RANK WHO OP ARG REPLY`. `OP` is `push`, `pop`,
-/// `enq` or `deq`; `ARG` is the item of a push or an enqueue, and else `-`; `REPLY` is `ok`,
-/// `full`, the item taken, or `empty`. Each line ends with a newline. It takes memory from `alloc`.
+/// `enq`, `deq`, `peek` or `sizes`; `ARG` is the item of a push or an enqueue, and else `-`; `REPLY`
+/// is `ok`, `full`, the item taken or seen, `empty`, or `S/Q` with the lengths of the stack and of
+/// the queue. Each line ends with a newline. It takes memory from `alloc`.
 ///
 /// # Errors
 ///
@@ -41,6 +42,8 @@ fn print_front(text: &mut String, entry: &Entry) -> Result<(), AllocError>
         Op::Pop => write!(text, "{turn} {rank} {who} pop - "),
         Op::Enq => write!(text, "{turn} {rank} {who} enq {arg} "),
         Op::Deq => write!(text, "{turn} {rank} {who} deq - "),
+        Op::Peek => write!(text, "{turn} {rank} {who} peek - "),
+        Op::Sizes => write!(text, "{turn} {rank} {who} sizes - "),
     }
 }
 
@@ -53,6 +56,7 @@ fn print_reply(text: &mut String, reply: Reply) -> Result<(), AllocError>
         Reply::Full => writeln!(text, "full"),
         Reply::Item(item) => writeln!(text, "{item}"),
         Reply::Empty => writeln!(text, "empty"),
+        Reply::Sizes(stack, queue) => writeln!(text, "{stack}/{queue}"),
     }
 }
 

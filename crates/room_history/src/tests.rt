@@ -108,6 +108,67 @@ fn the_check_names_the_first_fault(rt: HostRuntime) -> Result<(), Fail> {
 }
 
 #[test]
+fn looks_are_merged_checked_and_printed(rt: HostRuntime) -> Result<(), Fail> {
+    let calls = [
+        entry(1, 0, Op::Peek, 0, Reply::Empty),
+        entry(2, TOP, Op::Push, 5, Reply::Done),
+        entry(3, 0, Op::Sizes, 0, Reply::Sizes(1, 0)),
+        entry(3, 1, Op::Peek, 0, Reply::Item(5)),
+        entry(4, 0, Op::Enq, 6, Reply::Done),
+        entry(5, 0, Op::Sizes, 0, Reply::Sizes(1, 1)),
+    ];
+    let pieces = [
+        list(rt.alloc(), &[calls[3], calls[5]])?,
+        list(rt.alloc(), &[calls[0], calls[1], calls[2], calls[4]])?,
+    ];
+    let history = merge(rt.alloc(), &pieces)?;
+    assert_eq!(rt; history.as_slice(), calls.as_slice());
+    let state = check(rt.alloc(), Layout::Paged, 2, &history)?;
+    let lines = "1 0 0 peek - empty\n2 4294967296 0 push 5 ok\n3 0 0 sizes - 1/0\n3 1 0 peek - 5\n\
+         4 0 0 enq 6 ok\n5 0 0 sizes - 1/1\n";
+    assert_eq!(rt;
+        print_entries(rt.alloc(), &history)?.as_slice(),
+        lines.as_bytes()
+    );
+    assert_eq!(rt;
+        print_state(rt.alloc(), &state)?.as_slice(),
+        b"stack 5\nqueue 6\n".as_slice()
+    );
+    Ok(())
+}
+
+#[test]
+fn a_look_says_what_the_lists_have(rt: HostRuntime) -> Result<(), Fail> {
+    let push = entry(1, TOP, Op::Push, 5, Reply::Done);
+    let looks = [
+        entry(2, 0, Op::Peek, 0, Reply::Item(6)),
+        entry(2, 0, Op::Peek, 0, Reply::Empty),
+        entry(2, 0, Op::Sizes, 0, Reply::Sizes(0, 1)),
+        entry(2, 0, Op::Sizes, 0, Reply::Sizes(0, 0)),
+        entry(2, 0, Op::Sizes, 0, Reply::Empty),
+        entry(2, 0, Op::Peek, 0, Reply::Sizes(1, 0)),
+    ];
+    for look in looks {
+        assert_eq!(rt; fault(rt.alloc(), &[push, look])?, CheckFault::Unlawful(1));
+    }
+    Ok(())
+}
+
+// Peeks and looks at the lengths are counted together, so that no two have one rank.
+#[test]
+fn two_looks_of_one_rank_are_refused(rt: HostRuntime) -> Result<(), Fail> {
+    let peek = entry(7, 0, Op::Peek, 0, Reply::Empty);
+    let sizes = entry(7, 0, Op::Sizes, 0, Reply::Sizes(0, 0));
+    assert_eq!(rt; fault(rt.alloc(), &[peek, sizes])?, CheckFault::Order(1));
+    let lists = [list(rt.alloc(), &[peek])?, list(rt.alloc(), &[sizes])?];
+    match merge(rt.alloc(), &lists) {
+        Err(fault) => assert_eq!(rt; fault, MergeFault::Twin { turn: 7, rank: 0 }),
+        Ok(_) => return Err("merged".into()),
+    }
+    Ok(())
+}
+
+#[test]
 fn a_push_past_the_last_cell_is_not_lawful(rt: HostRuntime) -> Result<(), Fail> {
     let mut pushes = Vec::new(rt.alloc());
     for i in 0..33 {

@@ -4,24 +4,30 @@ use Rattle.std.specs.Prelude.{All, count_by}
 use Rattle.std.specs.List.{flat_map}
 use Rattle.std.proofs.lemmas.Grind.{flat_map-append}
 use Rattle.std.proofs.lemmas.List.{append-nil, map_push, length-append}
-use Rattle.std.proofs.lemmas.List.Elements.{All-nil, All-cons, All-head, All-tail, All-append, All-map, All-push, All-weaker}
+use Rattle.std.proofs.lemmas.List.Elements.{All-nil, All-cons, All-head, All-tail, All-append, All-push}
 use Rattle.std.proofs.lemmas.List.Sums.{sum_by-cons, sum_by-append}
 use Rattle.room_script.specs.declared.trials.Line.{Line}
-use Rattle.room_script.specs.declared.trials.Line.TheVariants.{Push, Pop, Enq, Deq}
-use Rattle.room_script.specs.Trials.{IsCall, call_line, caller_line, script_lines, AreScripts}
-use Rattle.room_script.proofs.Calls.{IsCallLine, call_line-injective, caller_no_call}
+use Rattle.room_script.specs.declared.trials.Line.TheVariants.{Push, Pop, Enq, Deq, Peek, Sizes}
+use Rattle.room_script.specs.Trials.{IsCall, HasLine, IsCallLine, call_line, caller_line, script_lines, AreScripts}
+use Rattle.room_script.proofs.Calls.{call_line-injective, caller_no_call}
 
--- a line of a script
-abbrev pub IsRow : List ℕ → Type 0
-IsRow line = (line ≡ caller_line) ⊎ ((a : Line) × IsCallLine line a)
+-- a line of a script, in a form
+abbrev pub IsRow : ℕ → List ℕ → Type 0
+IsRow form line = (line ≡ caller_line) ⊎ ((a : Line) × IsCallLine form line a)
 
-pub each_row : (scripts : List (List Line)) → All (All IsCall) scripts → All IsRow (flat_map script_lines scripts)
-each_row [] fit = All-nil IsRow
-each_row (s ∷ scripts) fit =
-    All-append IsRow (script_lines s) (flat_map script_lines scripts)
-    (All-cons IsRow caller_line (map call_line s) (inl refl)
-    (All-map IsRow call_line s (All-weaker IsCall (λ a. IsRow (call_line a)) (λ a is. inr (a, (is, refl))) s (All-head (All IsCall) s scripts fit))))
-    (each_row scripts (All-tail (All IsCall) s scripts fit))
+each_call : (form : ℕ) (s : List Line) → All IsCall s → All (HasLine form) s → All (IsRow form) (map call_line s)
+each_call form [] fit lined = All-nil (IsRow form)
+each_call form (a ∷ s) fit lined =
+    All-cons (IsRow form) (call_line a) (map call_line s) (inr (a, (All-head IsCall a s fit, All-head (HasLine form) a s lined, refl)))
+    (each_call form s (All-tail IsCall a s fit) (All-tail (HasLine form) a s lined))
+
+pub each_row : (form : ℕ) (scripts : List (List Line)) → All (All IsCall) scripts → All (All (HasLine form)) scripts → All (IsRow form) (flat_map script_lines scripts)
+each_row form [] fit lined = All-nil (IsRow form)
+each_row form (s ∷ scripts) fit lined =
+    All-append (IsRow form) (script_lines s) (flat_map script_lines scripts)
+    (All-cons (IsRow form) caller_line (map call_line s) (inl refl)
+    (each_call form s (All-head (All IsCall) s scripts fit) (All-head (All (HasLine form)) s scripts lined)))
+    (each_row form scripts (All-tail (All IsCall) s scripts fit) (All-tail (All (HasLine form)) s scripts lined))
 
 -- whether a line begins as the first one of a script does
 abbrev pub begins : List ℕ → Bool
@@ -41,6 +47,8 @@ begins_none (Push x) = refl
 begins_none Pop = refl
 begins_none (Enq x) = refl
 begins_none Deq = refl
+begins_none Peek = refl
+begins_none Sizes = refl
 
 begun_calls : (s : List Line) → begun (map call_line s) ≡ 0
 begun_calls [] = refl
@@ -69,7 +77,7 @@ lines_call [] s a =
 lines_call (x ∷ scripts) s a =
     ap (λ xs. script_lines x ++ xs) (lines_call scripts s a) ∙ sym (append_assoc (script_lines x) (flat_map script_lines (scripts ++ s ∷ [])) (call_line a ∷ []))
 
-last_is : (P : List Line → Type 0) (scripts : List (List Line)) (s t : List Line) → (P s → P t) → All P (scripts ++ s ∷ []) → All P (scripts ++ t ∷ [])
+pub last_is : (P : List Line → Type 0) (scripts : List (List Line)) (s t : List Line) → (P s → P t) → All P (scripts ++ s ∷ []) → All P (scripts ++ t ∷ [])
 last_is P [] s t f all = All-cons P t [] (f (All-head P s [] all)) (All-nil P)
 last_is P (x ∷ scripts) s t f all = All-cons P x (scripts ++ t ∷ []) (All-head P x (scripts ++ s ∷ []) all) (last_is P scripts s t f (All-tail P x (scripts ++ s ∷ []) all))
 

@@ -9,7 +9,7 @@ use Rattle.bay_core.specs.declared.calls.Layout.{Layout}
 use Rattle.bay_core.specs.declared.calls.Layout.TheVariants.{Split, Paged}
 use Rattle.room_script.specs.declared.trials.Line.{Line}
 use Rattle.room_script.specs.Breaks.{Begins, BreaksAt}
-use Rattle.room_script.specs.Trials.{Outline, IsBlocks, IsDraws, IsCall, layout_line, blocks_line, draws_line, caller_line, script_lines, outline_lines, AreScripts, IsWithin, SpellsTrial, IsTrial}
+use Rattle.room_script.specs.Trials.{Outline, IsForm, IsBlocks, IsDraws, IsCall, HasLine, title_line, layout_line, blocks_line, draws_line, caller_line, script_lines, outline_lines, AreScripts, IsWithin, SpellsIn, IsTrial}
 use Rattle.room_script.proofs.Fronts.{breaks_next}
 
 abbrev pub outline : Layout → ℕ → ℕ → List (List Line) → Outline
@@ -38,12 +38,15 @@ begins_so : (scripts : List (List Line)) → 1 ≤ length scripts → (1 ≤ len
 begins_so [] some = absurd (omega (arith, some))
 begins_so (s ∷ scripts) some = (omega arith, refl)
 
--- a trial has five lines at least
-long : (o : Outline) → IsWithin o → 5 ≤ length (outline_lines o)
-long o within = omega (arith, (begins_so o.scripts within.scripts.some).0)
+idle_calls : (form : ℕ) → All (All (HasLine form)) ([] ∷ [])
+idle_calls form = All-cons (All (HasLine form)) [] [] (All-nil (HasLine form)) (All-nil (All (HasLine form)))
 
-fifth : (o : Outline) → IsWithin o → get_or (outline_lines o) 4 [] ≡ caller_line
-fifth o within = (begins_so o.scripts within.scripts.some).1
+-- a trial has five lines at least
+long : (form : ℕ) (o : Outline) → IsWithin o → 5 ≤ length (outline_lines form o)
+long form o within = omega (arith, (begins_so o.scripts within.scripts.some).0)
+
+fifth : (form : ℕ) (o : Outline) → IsWithin o → get_or (outline_lines form o) 4 [] ≡ caller_line
+fifth form o within = (begins_so o.scripts within.scripts.some).1
 
 -- two layouts have two lines
 pub layout_same : (l m : Layout) → layout_line l ≡ layout_line m → l ≡ m
@@ -53,93 +56,132 @@ layout_same Split Paged e = absurd (omega (arith, ap (λ xs. get_or xs 7 0) e))
 layout_same Paged Split e = absurd (omega (arith, ap (λ xs. get_or xs 7 0) e))
 
 -- this line and those before it are the trial's
-abbrev pub AreLines : List (List ℕ) → Outline → ℕ → Type 0
-AreLines lines o i = (j : ℕ) → j ≤ i → get_or lines j [] ≡ get_or (outline_lines o) j []
+abbrev pub AreLines : ℕ → List (List ℕ) → Outline → ℕ → Type 0
+AreLines form lines o i = (j : ℕ) → j ≤ i → get_or lines j [] ≡ get_or (outline_lines form o) j []
+
+-- a trial that has this line where it stands, and those before it
+pub record Shares (lines : List (List ℕ)) (i : ℕ) : Type 0 where
+  pub form : ℕ
+  pub known : IsForm form
+  pub told : Outline
+  pub within : IsWithin told
+  pub calls : All (All (HasLine form)) told.scripts
+  pub are : AreLines form lines told i
+  pub long : i < length (outline_lines form told)
 
 -- some trial has this line where it stands, and those before it
-pub begun_at : (lines : List (List ℕ)) (i : ℕ) → i < length lines → Begins IsTrial (take (i + 1) lines)
-    → (o : Outline) × IsWithin o × AreLines lines o i × (i < length (outline_lines o))
+pub begun_at : (lines : List (List ℕ)) (i : ℕ) → i < length lines → Begins IsTrial (take (i + 1) lines) → Shares lines i
 begun_at lines i within begins =
     let o = begins.1.0 in
-    let spells = begins.1.1 in
+    let form = begins.1.1.form in
+    let spells = begins.1.1.spelled in
     let inside : i < length (take (i + 1) lines) = omega (arith, length-take (i + 1) lines) in
     let same : (j : ℕ) → j ≤ i → get_or (take (i + 1) lines ++ begins.0) j [] ≡ get_or lines j [] =
     λ j near. get_or_append_left (take (i + 1) lines) begins.0 [] j (omega (arith, near, inside)) ∙ get_or-take (i + 1) lines j [] (omega (arith, near)) in
-    (o, spells.within, (λ j near. sym (same j near) ∙ ap (λ xs. get_or xs j []) spells.spelled), omega (arith, inside, length-append (take (i + 1) lines) begins.0, ap length spells.spelled))
+    record {
+      form = form;
+      known = spells.known;
+      told = o;
+      within = spells.within;
+      calls = spells.calls;
+      are = λ j near. sym (same j near) ∙ ap (λ xs. get_or xs j []) spells.spelled;
+      long = omega (arith, inside, length-append (take (i + 1) lines) begins.0, ap length spells.spelled);
+    }
 
--- the first n lines are those of the trial
-pub record Front (lines : List (List ℕ)) (o : Outline) (n : ℕ) : Type 0 where
+-- the first n lines are those of the trial, in the form
+pub record Front (form : ℕ) (lines : List (List ℕ)) (o : Outline) (n : ℕ) : Type 0 where
   pub enough : n ≤ length lines
-  pub same : take n lines ≡ take n (outline_lines o)
+  pub same : take n lines ≡ take n (outline_lines form o)
 
-front_none : (lines : List (List ℕ)) (o : Outline) → Front lines o 0
-front_none lines o = record { enough = omega arith; same = refl }
+front_none : (form : ℕ) (lines : List (List ℕ)) (o : Outline) → Front form lines o 0
+front_none form lines o = record { enough = omega arith; same = refl }
 
-front_more : (lines : List (List ℕ)) (o : Outline) (n : ℕ) → Front lines o n → n < length (outline_lines o) → 0 < length (get_or (outline_lines o) n []) → get_or lines n [] ≡ get_or (outline_lines o) n []
-    → Front lines o (n + 1)
-front_more lines o n front there some at =
+front_more : (form : ℕ) (lines : List (List ℕ)) (o : Outline) (n : ℕ) → Front form lines o n → n < length (outline_lines form o) → 0 < length (get_or (outline_lines form o) n [])
+    → get_or lines n [] ≡ get_or (outline_lines form o) n [] → Front form lines o (n + 1)
+front_more form lines o n front there some at =
     elim (cases_lt n (length lines)) [
       | inl within ↦ record {
         enough = omega arith;
         same = take_more lines n [] within ∙ (ap (λ xs. xs ++ get_or lines n [] ∷ []) front.same
-            ∙ (ap (λ x. take n (outline_lines o) ++ x ∷ []) at ∙ sym (take_more (outline_lines o) n [] there)));
+            ∙ (ap (λ x. take n (outline_lines form o) ++ x ∷ []) at ∙ sym (take_more (outline_lines form o) n [] there)));
       }
       | inr past ↦ absurd (omega (arith, some, ap length (sym (get_or_past lines n [] past) ∙ at)))
     ]
 
 -- the line after those is no trial's
-next_breaks : (lines : List (List ℕ)) (o : Outline) (n : ℕ) → Front lines o n → IsWithin o → n < 5 → ((p : Outline) → IsWithin p → AreLines lines p n → ⊥) → BreaksAt IsTrial lines (n + 1)
-next_breaks lines o n front within early wrong =
-    breaks_next IsTrial lines n front.enough
-    (drop n (outline_lines o), (o, record { within = within; spelled = ap (λ xs. xs ++ drop n (outline_lines o)) front.same ∙ take-append-drop n (outline_lines o) }))
-    (λ inside begins. let at = begun_at lines n inside begins in wrong at.0 at.1 at.2)
-    (λ ends keeps. omega (arith, ends, early, long keeps.0 keeps.1.within, ap length keeps.1.spelled))
+next_breaks : (form : ℕ) → IsForm form → (lines : List (List ℕ)) (l : Layout) (b d n : ℕ) → Front form lines (idle l b d) n → IsWithin (idle l b d) → n < 5
+    → ((share : Shares lines n) → ⊥) → BreaksAt IsTrial lines (n + 1)
+next_breaks form known lines l b d n front within early wrong =
+    let o = idle l b d in
+    breaks_next IsTrial lines n front.enough (
+      drop n (outline_lines form o),
+      (
+        o,
+        record {
+          form = form;
+          spelled = record {
+            known = known;
+            within = within;
+            calls = idle_calls form;
+            spelled = ap (λ xs. xs ++ drop n (outline_lines form o)) front.same ∙ take-append-drop n (outline_lines form o);
+          };
+        },
+      ),
+    )
+    (λ inside begins. wrong (begun_at lines n inside begins))
+    (λ ends keeps. omega (arith, ends, early, long keeps.1.form keeps.0 keeps.1.spelled.within, ap length keeps.1.spelled.spelled))
+
+one_form : IsForm 1
+one_form = (omega arith, omega arith)
 
 module _ (lines : List (List ℕ)) where
-  pub title_wrong : get_or lines 0 [] ≢ codes "trial 1" → BreaksAt IsTrial lines 1
+  pub title_wrong : ((form : ℕ) → IsForm form × (get_or lines 0 [] ≡ title_line form) → ⊥) → BreaksAt IsTrial lines 1
   title_wrong wrong =
-      next_breaks lines (idle Split 2 1) 0 (front_none lines (idle Split 2 1)) (idle_within Split 2 1 (two_blocks Split) one_draw) (omega arith) (λ p within e. wrong (e 0 (omega arith)))
+      next_breaks 1 one_form lines Split 2 1 0 (front_none 1 lines (idle Split 2 1)) (idle_within Split 2 1 (two_blocks Split) one_draw) (omega arith)
+      (λ s. wrong s.form (s.known, s.are 0 (omega arith)))
 
-  module _ (title : get_or lines 0 [] ≡ codes "trial 1") where
-    front_one : (l : Layout) (b d : ℕ) → Front lines (idle l b d) 1
-    front_one l b d = front_more lines (idle l b d) 0 (front_none lines (idle l b d)) (omega arith) (omega arith) title
+  module _ (form : ℕ) (title : IsForm form × (get_or lines 0 [] ≡ title_line form)) where
+    front_one : (l : Layout) (b d : ℕ) → Front form lines (idle l b d) 1
+    front_one l b d = front_more form lines (idle l b d) 0 (front_none form lines (idle l b d)) (omega arith) (omega arith) title.1
 
     pub layout_wrong : ((l : Layout) → get_or lines 1 [] ≡ layout_line l → ⊥) → BreaksAt IsTrial lines 2
     layout_wrong wrong =
-        next_breaks lines (idle Split 2 1) 1 (front_one Split 2 1) (idle_within Split 2 1 (two_blocks Split) one_draw) (omega arith) (λ p within e. wrong p.layout (e 1 (omega arith)))
+        next_breaks form title.0 lines Split 2 1 1 (front_one Split 2 1) (idle_within Split 2 1 (two_blocks Split) one_draw) (omega arith) (λ s. wrong s.told.layout (s.are 1 (omega arith)))
 
     layout_some : (l : Layout) → 0 < length (layout_line l)
     layout_some Split = omega arith
     layout_some Paged = omega arith
 
     module _ (l : Layout) (second : get_or lines 1 [] ≡ layout_line l) where
-      front_two : (b d : ℕ) → Front lines (idle l b d) 2
-      front_two b d = front_more lines (idle l b d) 1 (front_one l b d) (omega arith) (layout_some l) second
+      front_two : (b d : ℕ) → Front form lines (idle l b d) 2
+      front_two b d = front_more form lines (idle l b d) 1 (front_one l b d) (omega arith) (layout_some l) second
 
       pub blocks_wrong : ((n : ℕ) → IsBlocks l n × (get_or lines 2 [] ≡ blocks_line n) → ⊥) → BreaksAt IsTrial lines 3
       blocks_wrong wrong =
-          next_breaks lines (idle l 2 1) 2 (front_two 2 1) (idle_within l 2 1 (two_blocks l) one_draw) (omega arith) (λ p within e.
-          let same : p.layout ≡ l = layout_same p.layout l (sym (e 1 (omega arith)) ∙ second) in
-          wrong p.blocks (subst (λ m. IsBlocks m p.blocks) same within.blocks, e 2 (omega arith)))
+          next_breaks form title.0 lines l 2 1 2 (front_two 2 1) (idle_within l 2 1 (two_blocks l) one_draw) (omega arith) (λ s.
+          let same : s.told.layout ≡ l = layout_same s.told.layout l (sym (s.are 1 (omega arith)) ∙ second) in
+          wrong s.told.blocks (subst (λ m. IsBlocks m s.told.blocks) same s.within.blocks, s.are 2 (omega arith)))
 
       module _ (b : ℕ) (third : IsBlocks l b × (get_or lines 2 [] ≡ blocks_line b)) where
-        front_three : (d : ℕ) → Front lines (idle l b d) 3
-        front_three d = front_more lines (idle l b d) 2 (front_two b d) (omega arith) (omega arith) third.1
+        front_three : (d : ℕ) → Front form lines (idle l b d) 3
+        front_three d = front_more form lines (idle l b d) 2 (front_two b d) (omega arith) (omega arith) third.1
 
         pub draws_wrong : ((n : ℕ) → IsDraws n × (get_or lines 3 [] ≡ draws_line n) → ⊥) → BreaksAt IsTrial lines 4
         draws_wrong wrong =
-            next_breaks lines (idle l b 1) 3 (front_three 1) (idle_within l b 1 third.0 one_draw) (omega arith) (λ p within e. wrong p.draws (within.draws, e 3 (omega arith)))
+            next_breaks form title.0 lines l b 1 3 (front_three 1) (idle_within l b 1 third.0 one_draw) (omega arith) (λ s. wrong s.told.draws (s.within.draws, s.are 3 (omega arith)))
 
         module _ (d : ℕ) (fourth : IsDraws d × (get_or lines 3 [] ≡ draws_line d)) where
-          front_four : Front lines (idle l b d) 4
-          front_four = front_more lines (idle l b d) 3 (front_three d) (omega arith) (omega arith) fourth.1
+          front_four : Front form lines (idle l b d) 4
+          front_four = front_more form lines (idle l b d) 3 (front_three d) (omega arith) (omega arith) fourth.1
 
           pub caller_wrong : get_or lines 4 [] ≢ caller_line → BreaksAt IsTrial lines 5
           caller_wrong wrong =
-              next_breaks lines (idle l b d) 4 front_four (idle_within l b d third.0 fourth.0) (omega arith) (λ p within e. wrong (e 4 (omega arith) ∙ fifth p within))
+              next_breaks form title.0 lines l b d 4 front_four (idle_within l b d third.0 fourth.0) (omega arith) (λ s. wrong (s.are 4 (omega arith) ∙ fifth s.form s.told s.within))
 
-          pub head_read : get_or lines 4 [] ≡ caller_line → SpellsTrial (take 5 lines) (idle l b d)
+          pub head_read : get_or lines 4 [] ≡ caller_line → SpellsIn form (take 5 lines) (idle l b d)
           head_read caller = record {
+            known = title.0;
             within = idle_within l b d third.0 fourth.0;
-            spelled = (front_more lines (idle l b d) 4 front_four (omega arith) (omega arith) caller).same;
+            calls = idle_calls form;
+            spelled = (front_more form lines (idle l b d) 4 front_four (omega arith) (omega arith) caller).same;
           }

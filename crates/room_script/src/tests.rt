@@ -187,11 +187,26 @@ fn a_trial_has_a_script_for_each_caller(rt: HostRuntime) -> Result<(), Fail> {
 }
 
 #[test]
+fn a_trial_of_the_second_form_may_look(rt: HostRuntime) -> Result<(), Fail> {
+    let text = b"trial 2\nlayout split\nblocks 1\ndraws 9\ncaller\npeek\npush 5\nsizes\n";
+    let trial = read_trial(rt.alloc(), text)?;
+    assert_eq!(rt; trial.scripts.len(), 1);
+    assert_eq!(rt;
+        trial.scripts[0].as_slice(),
+        [Line::Peek, Line::Push(5), Line::Sizes].as_slice()
+    );
+    Ok(())
+}
+
+#[test]
 fn the_first_line_that_breaks_the_rules_of_trials_is_named(rt: HostRuntime) -> Result<(), Fail> {
     let rows = [
         ("", 1),
-        ("trial 2\n", 1),
+        ("trial 0\n", 1),
+        ("trial 3\n", 1),
+        ("trial 02\n", 1),
         ("trial 1\n", 2),
+        ("trial 2", 2),
         ("trial 1\nlayout torn\nblocks 0\n", 2),
         ("trial 1\nlayout paged \nblocks 2\n", 2),
         ("trial 1\nlayout paged\nblocks 1\ndraws 1\ncaller\n", 3),
@@ -227,6 +242,23 @@ fn the_first_line_that_breaks_the_rules_of_trials_is_named(rt: HostRuntime) -> R
             "trial 1\nlayout split\nblocks 1\ndraws 1\ncaller\nenq 1\ndeq \n",
             7,
         ),
+        (
+            "trial 1\nlayout split\nblocks 1\ndraws 1\ncaller\npop\npeek\n",
+            7,
+        ),
+        (
+            "trial 1\nlayout split\nblocks 1\ndraws 1\ncaller\nsizes\n",
+            6,
+        ),
+        (
+            "trial 2\nlayout split\nblocks 1\ndraws 1\ncaller\npeek\npeek 1\n",
+            7,
+        ),
+        (
+            "trial 2\nlayout split\nblocks 1\ndraws 1\ncaller\nsizes\npeek\npop\n",
+            0,
+        ),
+        ("trial 2\nlayout split\nblocks 1\ndraws 1\ncaller\n", 0),
     ];
     for (text, line) in rows {
         assert_eq!(rt;

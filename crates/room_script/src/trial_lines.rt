@@ -1,18 +1,25 @@
 //! The lines of a trial.
-ghost use Rattle.std.specs.Prelude.{◌≡◌, ℕ, ◌↔◌, Some, IsTrue, codes};
+ghost use Rattle.std.specs.Prelude.{◌≡◌, ℕ, ◌↔◌, Some, IsTrue};
 ghost use Rattle.bay_core.specs.declared.calls.Layout.{Layout};
 ghost use Rattle.room_script.specs.declared.trials.Line.{Line};
-ghost use Rattle.room_script.specs.Trials.{least_blocks, IsBlocks, IsDraws, IsCall, layout_line, blocks_line, draws_line, caller_line, call_line};
+ghost use Rattle.room_script.specs.Trials.{IsForm, least_blocks, IsBlocks, IsDraws, IsCallLine, title_line, layout_line, blocks_line, draws_line, caller_line};
 
 use crate::numbers::number_after;
 use crate::trials::Line;
 use bay_core::{Layout, MOST_BLOCKS, MOST_DRAWS};
 
-/// Whether the line is the first one of a trial.
-pub fn is_trial_title(line: &[u8]) -> bool
-    ensures { IsTrue result ↔ (line.now ≡ codes "trial 1") }
+// The form that has lines for the calls that look.
+const LOOKING: u64 = 2;
+
+/// The form of the text, where the line is the first one of a trial.
+pub fn read_title(line: &[u8]) -> Option<u64>
+    ensures { (n : ℕ) → (result ≡ Some n) ↔ (IsForm n × (line.now ≡ title_line n)) }
 {
-    line == b"trial 1".as_slice()
+    let form = number_after(b"trial ", line)?;
+    if form == 0 || form > LOOKING {
+        return None;
+    }
+    Some(form)
 }
 
 /// The layout, where the line gives one.
@@ -67,9 +74,9 @@ pub fn is_caller(line: &[u8]) -> bool
     line == b"caller".as_slice()
 }
 
-/// The call, where the line gives one.
-pub fn read_call(line: &[u8]) -> Option<Line>
-    ensures { (a : Line) → (result ≡ Some a) ↔ (IsCall a × (line.now ≡ call_line a)) }
+/// The call, where the line gives one in this form.
+pub fn read_call(form: u64, line: &[u8]) -> Option<Line>
+    ensures { (a : Line) → (result ≡ Some a) ↔ IsCallLine form line.now a }
 {
     if let Some(item) = number_after(b"push ", line) {
         return Some(Line::Push(item));
@@ -82,6 +89,12 @@ pub fn read_call(line: &[u8]) -> Option<Line>
     }
     if line == b"deq".as_slice() {
         return Some(Line::Deq);
+    }
+    if form == LOOKING && line == b"peek".as_slice() {
+        return Some(Line::Peek);
+    }
+    if form == LOOKING && line == b"sizes".as_slice() {
+        return Some(Line::Sizes);
     }
     None
 }

@@ -2,13 +2,11 @@
 ghost use Rattle.std.specs.Prelude.{◌≡◌, ◌⊎◌, ℕ, [], ◌∷◌, true, false, Err, IfOk, IfErr, MatchResult, IsErrAnd, All, map, take};
 ghost use Rattle.room_script.specs.Breaks.{BreaksAt};
 ghost use Rattle.room_script.specs.Lines.{lines_of, bytes_at, IsRange};
-ghost use Rattle.room_script.specs.Trials.{Outline, outline_of, IsNext, IsWrong, SpellsTrial, IsTrial};
+ghost use Rattle.room_script.specs.Trials.{Outline, outline_of, IsNext, IsWrong, SpellsIn, SpellsTrial, IsTrial};
 
 use crate::faults::ScriptFault;
 use crate::pieces::{Piece, line_at, lines};
-use crate::trial_lines::{
-    is_caller, is_trial_title, read_blocks, read_call, read_draws, read_layout,
-};
+use crate::trial_lines::{is_caller, read_blocks, read_call, read_draws, read_layout, read_title};
 use bay_core::Layout;
 use std::alloc::{AllocError, Global};
 use std::mem;
@@ -24,6 +22,10 @@ pub enum Line {
     Enq(u64),
     /// Takes the oldest item of the queue.
     Deq,
+    /// Looks at the top item of the stack.
+    Peek,
+    /// Looks how long the stack and the queue are.
+    Sizes,
 }
 
 /// A trial: a bay, and what its callers do.
@@ -43,18 +45,26 @@ const HEAD_LINES: usize = 5;
 
 const MOST_CALLERS: usize = 64;
 
-// The layout and the numbers of blocks and draws, in the first five lines, of which the last begins
-// the first script.
-fn read_trial_head(text: &[u8], lines: &[Piece]) -> Result<(Layout, u32, u64), ScriptFault>
+// What the first five lines say, of which the last begins the first script: the form of the text, the
+// layout and the numbers of blocks and draws.
+struct Head {
+    form: u64,
+    layout: Layout,
+    blocks: u32,
+    draws: u64,
+}
+
+// The first five lines.
+fn read_trial_head(text: &[u8], lines: &[Piece]) -> Result<Head, ScriptFault>
     requires { All (IsRange text.now) lines.now }
-    ensures read { IfOk result (λ head. SpellsTrial (take 5 (map (bytes_at text.now) lines.now))
-        (record { layout = head.0; blocks = head.1; draws = head.2; scripts = [] ∷ [] })) }
+    ensures read { IfOk result (λ head. SpellsIn head.form (take 5 (map (bytes_at text.now) lines.now))
+        (record { layout = head.layout; blocks = head.blocks; draws = head.draws; scripts = [] ∷ [] })) }
     ensures broken { IfErr result (λ e. (k : ℕ) × (e ≡ ScriptFault.Line k)
         × BreaksAt IsTrial (map (bytes_at text.now) lines.now) k) }
 {
-    if !is_trial_title(line_at(text, lines, 0)) {
+    let Some(form) = read_title(line_at(text, lines, 0)) else {
         return Err(ScriptFault::Line(1));
-    }
+    };
     let Some(layout) = read_layout(line_at(text, lines, 1)) else {
         return Err(ScriptFault::Line(2));
     };
@@ -67,20 +77,26 @@ fn read_trial_head(text: &[u8], lines: &[Piece]) -> Result<(Layout, u32, u64), S
     if !is_caller(line_at(text, lines, 4)) {
         return Err(ScriptFault::Line(5));
     }
-    Ok((layout, blocks, draws))
+    Ok(Head {
+        form,
+        layout,
+        blocks,
+        draws,
+    })
 }
 
-// Whether the line may follow the scripts, the last of which is `script`: it is the next call of
-// that one, or it begins another and they are not too many. It is then added to them.
+// Whether the line may follow the scripts in this form, the last of which is `script`: it is the next
+// call of that one, or it begins another and they are not too many. It is then added to them.
 fn add_line(
     alloc: Global,
+    form: u64,
     scripts: &mut Vec<Vec<Line>>,
     script: &mut Vec<Line>,
     line: &[u8],
 ) -> Result<bool, AllocError>
-    ensures next { result ≡ Ok true → IsNext (map (λ s. s.items) scripts.old.items) script.old.items
+    ensures next { result ≡ Ok true → IsNext form (map (λ s. s.items) scripts.old.items) script.old.items
         line.now (map (λ s. s.items) scripts.new.items) script.new.items }
-    ensures wrong { result ≡ Ok false → IsWrong (map (λ s. s.items) scripts.old.items) line.now }
+    ensures wrong { result ≡ Ok false → IsWrong form (map (λ s. s.items) scripts.old.items) line.now }
 {
     if is_caller(line) {
         if scripts.len() + 1 >= MOST_CALLERS {
@@ -89,17 +105,18 @@ fn add_line(
         scripts.push(mem::replace(script, Vec::new(alloc)))?;
         return Ok(true);
     }
-    let Some(call) = read_call(line) else {
+    let Some(call) = read_call(form, line) else {
         return Ok(false);
     };
     script.push(call)?;
     Ok(true)
 }
 
-/// Reads the text of a trial. Its lines are `trial 1`, `layout split` or `layout paged`, `blocks B`
-/// with B from 1 to 16384, or from 2 on with `paged`, `draws D` with D from 1 to 281474976710656, and `caller`; then each is `caller`, `push X`,
-/// `pop`, `enq X` or `deq`, with any number X of 64 bits. Each `caller` begins the script of the
-/// next caller, of which there are at most 64, and the lines after it are that script. It takes
+/// Reads the text of a trial. Its lines are `trial 1` or `trial 2`, `layout split` or `layout paged`,
+/// `blocks B` with B from 1 to 16384, or from 2 on with `paged`, `draws D` with D from 1 to
+/// 281474976710656, and `caller`; then each is `caller`, `push X`, `pop`, `enq X` or `deq`, with any
+/// number X of 64 bits, or after `trial 2` also `peek` or `sizes`. Each `caller` begins the script of
+/// the next caller, of which there are at most 64, and the lines after it are that script. It takes
 /// memory from `alloc`.
 ///
 /// # Errors
@@ -116,12 +133,23 @@ pub fn read_trial(alloc: Global, text: &[u8]) -> Result<Trial, ScriptFault>
         → IsErrAnd result (λ e. (e ≡ ScriptFault.Line k) ⊎ (e ≡ ScriptFault.Memory)) }
 {
     let lines = lines(alloc, text)?;
-    let (layout, blocks, draws) = read_trial_head(text, &lines)?;
+    let Head {
+        form,
+        layout,
+        blocks,
+        draws,
+    } = read_trial_head(text, &lines)?;
     let mut scripts = Vec::new(alloc);
     let mut script = Vec::new(alloc);
     for i in HEAD_LINES..lines.len() {
         let line = lines[i];
-        match add_line(alloc, &mut scripts, &mut script, &text[line.from..line.to]) {
+        match add_line(
+            alloc,
+            form,
+            &mut scripts,
+            &mut script,
+            &text[line.from..line.to],
+        ) {
             Ok(true) => {}
             Ok(false) => return Err(ScriptFault::Line(i as u64 + 1)),
             Err(_) => return Err(ScriptFault::Memory),

@@ -5,11 +5,12 @@ use Rattle.std.proofs.lemmas.List.Sums.{sum_by-append}
 use Rattle.room_gate.specs.Shows.{Caller}
 use Rattle.bay_core.specs.declared.calls.Reply.{Reply}
 use Rattle.bay_core.specs.declared.calls.Reply.TheVariants.{Done, Full, Item, Empty}
+use Rattle.bay_core.specs.declared.calls.Reply.TheVariants as replies
 use Rattle.bay_core.specs.declared.calls.Entry.{Entry}
 use Rattle.bay_core.specs.declared.calls.Layout.{Layout}
 use Rattle.bay_core.specs.declared.calls.Layout.TheVariants.{Split, Paged}
 use Rattle.bay_core.specs.declared.calls.Op.{Op}
-use Rattle.bay_core.specs.declared.calls.Op.TheVariants.{Push, Pop, Enq, Deq}
+use Rattle.bay_core.specs.declared.calls.Op.TheVariants.{Push, Pop, Enq, Deq, Peek, Sizes}
 use Rattle.bay_core.specs.History.{own}
 use Rattle.bay_rule.specs.declared.bay_use.BayUse.{BayUse}
 use Rattle.bay_rule.specs.declared.views.BayView.{BayView}
@@ -49,6 +50,8 @@ overflows_more Push Split one two a b = omega (arith, a, b)
 overflows_more Pop Split one two a b = omega (arith, a, b)
 overflows_more Enq Split one two a b = omega (arith, a, b)
 overflows_more Deq Split one two a b = omega (arith, a, b)
+overflows_more Peek Split one two a b = omega (arith, a, b)
+overflows_more Sizes Split one two a b = omega (arith, a, b)
 
 spills_more : (op : Op) (layout : Layout) (again so_far : ℕ) (v w : BayView) (before : ℕ) → MayRepeat op layout again
     → Spills op again v w → v.spilled + v.overran ≡ before + so_far
@@ -57,6 +60,8 @@ spills_more Push layout again so_far v w before r s e = omega (arith, s.spilled,
 spills_more Pop layout again so_far v w before r s e = omega (arith, s.spilled, s.overran, e, r)
 spills_more Enq layout again so_far v w before r s e = omega (arith, s.spilled, s.overran, e)
 spills_more Deq layout again so_far v w before r s e = omega (arith, s.spilled, s.overran, e, r)
+spills_more Peek layout again so_far v w before r s e = omega (arith, s.spilled, s.overran, e, r)
+spills_more Sizes layout again so_far v w before r s e = omega (arith, s.spilled, s.overran, e, r)
 
 -- before its first
 pub none_yet : (x : BayUse) (lines : List Line) (pass : Caller BayView) → pass.user.mine ≡ own pass.who pass.user.seen
@@ -75,11 +80,12 @@ none_yet x lines pass mine limited = record {
 }
 
 -- the shares after one call
-shares_called : (r : Reply) (held : ℕ) → held_called r held ≡ held + taken_of r
-shares_called Done held = omega arith
-shares_called Full held = omega arith
-shares_called (Item item) held = omega arith
-shares_called Empty held = omega arith
+shares_called : (op : Op) (r : Reply) (held : ℕ) → held_called op r held ≡ held + taken_of op r
+shares_called op Done held = omega arith
+shares_called op Full held = omega arith
+shares_called op (Item item) held = omega arith
+shares_called op Empty held = omega arith
+shares_called op (replies.Sizes stack queue) held = omega arith
 
 -- one line more
 module _ (x : BayUse) (lines : List Line) (k : ℕ) (before now then : Caller BayView) (es : List Entry) (line : Line) (r : Receipt) where
@@ -110,9 +116,10 @@ module _ (x : BayUse) (lines : List Line) (k : ℕ) (before now then : Caller Ba
         held = omega (
           arith,
           ap (λ (p : Caller BayView). p.user.held) c.same,
-          shares_called r.entry.reply now.user.held,
+          shares_called op r.entry.reply now.user.held,
+          ap (λ (o : Op). taken_of o r.entry.reply) adds.op_is,
           so_far.held,
-          sum_by-append (λ d. taken_of d.reply) es (r.entry ∷ []),
+          sum_by-append (λ d. taken_of d.op d.reply) es (r.entry ∷ []),
         );
         hears = hears_on before now then so_far.hears (hears_call x op item now then r c);
       }

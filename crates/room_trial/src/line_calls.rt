@@ -2,9 +2,9 @@
 ghost use Rattle.std.specs.Prelude.{◌≡◌, ◌≤◌};
 ghost use Rattle.bay_store.specs.Calls.{CallGives};
 ghost use Rattle.room_trial.specs.Scripts.{asked};
-ghost use Rattle.room_trial.specs.Receipts.{put_receipt, take_receipt};
+ghost use Rattle.room_trial.specs.Receipts.{put_receipt, take_receipt, peek_receipt, sizes_receipt};
 
-use bay_store::{Bay, BayPass, Popped, Pushed, Receipt};
+use bay_store::{Bay, BayPass, Counted, Peeked, Popped, Pushed, Receipt};
 use room_script::Line;
 use std::sync::Wait;
 
@@ -41,6 +41,14 @@ pub fn call_line<R: Wait>(
             let (pass, popped) = bay.dequeue(rt, pass);
             (pass, taken(popped))
         }
+        Line::Peek => {
+            let (pass, peeked) = bay.peek(rt, pass);
+            (pass, seen(peeked))
+        }
+        Line::Sizes => {
+            let (pass, counted) = bay.sizes(rt, pass);
+            (pass, told(counted))
+        }
     }
 }
 
@@ -61,5 +69,25 @@ fn taken(popped: Popped) -> Option<Receipt>
     match popped {
         Popped::Item(_, receipt) | Popped::Empty(receipt) => Some(receipt),
         Popped::Spent => None,
+    }
+}
+
+// The receipt of a peek.
+fn seen(peeked: Peeked) -> Option<Receipt>
+    ensures { result ≡ peek_receipt peeked }
+{
+    match peeked {
+        Peeked::Item(_, receipt) | Peeked::Empty(receipt) => Some(receipt),
+        Peeked::Spent => None,
+    }
+}
+
+// The receipt of a look at both lengths.
+fn told(counted: Counted) -> Option<Receipt>
+    ensures { result ≡ sizes_receipt counted }
+{
+    match counted {
+        Counted::Sizes(_, _, receipt) => Some(receipt),
+        Counted::Spent => None,
     }
 }

@@ -17,20 +17,20 @@ use Rattle.work_pool.proofs.Gaining.{gains_out, gains_call, out_of_draws, hears_
 
 module _ (x : BayUse) (op : Op) (item : ℕ) (before now : Caller BayView) (mine : before.user.mine ≡ own before.who before.user.seen) where
   still_after : (r : Receipt) → Calls x op item before now r
-      → held_called r.entry.reply before.user.held ≡ before.user.held → IsStill before now
+      → held_called op r.entry.reply before.user.held ≡ before.user.held → IsStill before now
   still_after r c held = record {
     held = ap (λ (p : Caller BayView). p.user.held) c.same ∙ held;
     hears = hears_call x op item before now r c;
   }
 
   puts_in : (r : Receipt) (reply : Reply) → Calls x op item before now r → r.entry.reply ≡ reply
-      → held_called reply before.user.held ≡ before.user.held
+      → held_called op reply before.user.held ≡ before.user.held
       → PutsIn x op item reply before now r
   puts_in r reply c is held = record {
     adds = c.adds;
     reply_is = is;
     gains = gains_call x op item before now r mine c;
-    still = still_after r c (ap (λ y. held_called y before.user.held) is ∙ held);
+    still = still_after r c (ap (λ y. held_called op y before.user.held) is ∙ held);
   }
 
   puts_none : StaysOut x op before now → PutsNone x before now

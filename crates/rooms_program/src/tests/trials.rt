@@ -15,6 +15,9 @@ fn trial_prints_what_its_callers_did(rt: HostRuntime) -> Result<(), Fail> {
     let idle = "trial 1\nlayout split\nblocks 1\ndraws 1\ncaller\n";
     let paged = "trial 1\nlayout paged\nblocks 2\ndraws 100\ncaller\npush 5\npop\n";
     let overflow = "trial 1\nlayout paged\nblocks 2\ndraws 1\ncaller\npush 5\n";
+    let looks = "trial 2\nlayout split\nblocks 1\ndraws 9\ncaller\npeek\npush 5\npeek\nsizes\n";
+    let paged_looks =
+        "trial 2\nlayout paged\nblocks 2\ndraws 99\ncaller\nenq 7\nsizes\npeek\ndeq\nsizes\n";
     let cases = [
         (
             pops,
@@ -30,6 +33,14 @@ fn trial_prints_what_its_callers_did(rt: HostRuntime) -> Result<(), Fail> {
             "2 4294967296 0 push 5 ok\n3 4294967295 0 pop - 5\ncaller 0 answered 2 of 2\nstack\nqueue\n",
         ),
         (overflow, "caller 0 answered 0 of 1\nstack\nqueue\n"),
+        (
+            looks,
+            "1 0 0 peek - empty\n2 4294967296 0 push 5 ok\n3 0 0 peek - 5\n4 0 0 sizes - 1/0\ncaller 0 answered 4 of 4\nstack 5\nqueue\n",
+        ),
+        (
+            paged_looks,
+            "2 0 0 enq 7 ok\n3 0 0 sizes - 0/1\n4 0 0 peek - empty\n5 0 0 deq - 7\n6 0 0 sizes - 0/0\ncaller 0 answered 5 of 5\nstack\nqueue\n",
+        ),
     ];
     for (text, output) in cases {
         let ended = Attempt::new(&["trial"], text.as_bytes()).ended(&rt, alloc)?;
@@ -53,6 +64,26 @@ fn trial_refuses_texts(rt: HostRuntime) -> Result<(), Fail> {
             b"trial 1\nlayout paged\nblocks 1\n".as_slice(),
             Status::Script(3),
             "script line 3\n",
+        ),
+        (
+            b"trial 3\n".as_slice(),
+            Status::Script(1),
+            "script line 1\n",
+        ),
+        (
+            b"trial 1\nlayout split\nblocks 1\ndraws 9\ncaller\npush 5\npeek\n".as_slice(),
+            Status::Script(7),
+            "script line 7\n",
+        ),
+        (
+            b"trial 1\nlayout split\nblocks 1\ndraws 9\ncaller\nsizes\n".as_slice(),
+            Status::Script(6),
+            "script line 6\n",
+        ),
+        (
+            b"trial 2\nlayout split\nblocks 1\ndraws 9\ncaller\npeek\npeek 1\n".as_slice(),
+            Status::Script(7),
+            "script line 7\n",
         ),
         (long.as_slice(), Status::TooLong, "text too long\n"),
     ];
