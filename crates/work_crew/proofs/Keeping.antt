@@ -7,29 +7,35 @@ use Rattle.std.proofs.lemmas.List.Sorted.{IsPermutation-append_comm}
 use Rattle.work_pool.specs.Standing.{Standing, Handles, Keeps, Unkeeps}
 use Rattle.work_crew.specs.Keeping.{Keeping, HandsOut}
 
--- the work as it was but for what it keeps
-abbrev pub keeping : Standing → Keeping → Standing
-keeping s k = record s { kept_items = k.items; spare = k.spare }
+-- a work by what came to be given, of which so many are given
+abbrev pub standing : ℕ → List ℕ → Keeping → List ℕ → Standing
+standing at came kept done = record {
+  given = take at came;
+  to_give = drop at came;
+  kept_items = kept.items;
+  spare = kept.spare;
+  done = done;
+}
 
 -- it keeps an item more
-pub keeps_one : (s : Standing) (before now : Keeping) (item : ℕ)
+pub keeps_one : (at : ℕ) (came done : List ℕ) (before now : Keeping) (item : ℕ)
     → now ≡ record { items = before.items ++ item ∷ []; spare = before.spare - 1 }
-    → Keeps item (keeping s before) (keeping s now)
-keeps_one s before now item is = record {
+    → Keeps item (standing at came before done) (standing at came now done)
+keeps_one at came done before now item is = record {
   kept_items = subst (λ (k : Keeping). IsPermutation k.items (item ∷ before.items)) (sym is)
       (IsPermutation-append_comm before.items (item ∷ []));
-  same = ap (λ (k : Keeping). record s { kept_items = now.items; spare = k.spare }) is;
+  same = ap (λ (k : Keeping). standing at came (record { items = now.items; spare = k.spare }) done) is;
 }
 
 -- it handed out one of them
-pub unkeeps_one : (s : Standing) (before now : Keeping) (r : Option ℕ) → HandsOut before now r
-    → Unkeeps (keeping s before) (keeping s now) r
-unkeeps_one s before now (Some item) is = (
+pub unkeeps_one : (at : ℕ) (came done : List ℕ) (before now : Keeping) (r : Option ℕ) → HandsOut before now r
+    → Unkeeps (standing at came before done) (standing at came now done) r
+unkeeps_one at came done before now (Some item) is = (
   subst (λ l. IsPermutation l (item ∷ now.items)) (sym is.0) (IsPermutation-append_comm now.items (item ∷ [])),
   omega (arith, is.1),
   refl,
 )
-unkeeps_one s before now None is = (is.0, ap (keeping s) is.1)
+unkeeps_one at came done before now None is = (is.0, ap (λ k. standing at came k done) is.1)
 
 no_item : (xs : List ℕ) → length xs ≡ 0 → xs ≡ []
 no_item [] none = refl
@@ -44,16 +50,6 @@ hands_out before xs space old new None is long many room cases =
     let none : xs ≡ [] = no_item xs (many ∙ cases.1) in
     let old_none : before ≡ [] = no_item before (long ∙ cases.0) in
     (old_none, (λ i. record { items = (none ∙ sym old_none) i; spare = space - (cases.1 ∙ sym cases.0) i }))
-
--- a work by what came to be given, of which so many are given
-abbrev pub standing : ℕ → List ℕ → Keeping → List ℕ → Standing
-standing at came kept done = record {
-  given = take at came;
-  to_give = drop at came;
-  kept_items = kept.items;
-  spare = kept.spare;
-  done = done;
-}
 
 -- it handled an item, by which more came
 pub handled : (leads : ℕ → Type 0) (item at : ℕ) (came more now done : List ℕ) (before kept : Keeping)
