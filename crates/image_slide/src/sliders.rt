@@ -103,8 +103,8 @@ impl<'a> Work for Slider<'a> {
 
     fn handle(&mut self, item: u64) -> Result<(), AllocError> {
         let more = end_piece(item).saturating_sub(first_piece(item)) as usize;
-        make_room(&mut self.came, &mut self.parts, &mut self.done, more)?;
         self.kept.widen(self.came.len() - self.at + more)?;
+        make_room(&mut self.came, &mut self.parts, &mut self.done, more)?;
         do_job(
             self.alloc,
             self.image,

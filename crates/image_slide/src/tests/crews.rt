@@ -47,10 +47,34 @@ fn moves_alike<R: Threads + Wait + Sync + Abort, G: Gate + Sync>(
 fn every_crew_moves_what_one_thread_moves(rt: HostRuntime) -> Result<(), Fail> {
     let alloc = rt.alloc();
     let image = make_image(alloc, 100_000, 1)?;
-    moves_alike(&rt, alloc, &image, crew_of(1, Layout::Split, 1, 1 << 24), &OpenGate)?;
-    moves_alike(&rt, alloc, &image, crew_of(1, Layout::Split, 64, 1 << 24), &OpenGate)?;
-    moves_alike(&rt, alloc, &image, crew_of(4, Layout::Split, 1, 1 << 24), &OpenGate)?;
-    moves_alike(&rt, alloc, &image, crew_of(4, Layout::Split, 64, 1 << 24), &OpenGate)?;
+    moves_alike(
+        &rt,
+        alloc,
+        &image,
+        crew_of(1, Layout::Split, 1, 1 << 24),
+        &OpenGate,
+    )?;
+    moves_alike(
+        &rt,
+        alloc,
+        &image,
+        crew_of(1, Layout::Split, 64, 1 << 24),
+        &OpenGate,
+    )?;
+    moves_alike(
+        &rt,
+        alloc,
+        &image,
+        crew_of(4, Layout::Split, 1, 1 << 24),
+        &OpenGate,
+    )?;
+    moves_alike(
+        &rt,
+        alloc,
+        &image,
+        crew_of(4, Layout::Split, 64, 1 << 24),
+        &OpenGate,
+    )?;
     Ok(())
 }
 
@@ -58,9 +82,27 @@ fn every_crew_moves_what_one_thread_moves(rt: HostRuntime) -> Result<(), Fail> {
 fn spent_passes_leave_pieces_that_are_moved_all_the_same(rt: HostRuntime) -> Result<(), Fail> {
     let alloc = rt.alloc();
     let image = make_image(alloc, 2000, 3)?;
-    moves_alike(&rt, alloc, &image, crew_of(4, Layout::Split, 2, 1), &OpenGate)?;
-    moves_alike(&rt, alloc, &image, crew_of(4, Layout::Split, 2, 2), &OpenGate)?;
-    moves_alike(&rt, alloc, &image, crew_of(16, Layout::Split, 1, 5), &OpenGate)?;
+    moves_alike(
+        &rt,
+        alloc,
+        &image,
+        crew_of(4, Layout::Split, 2, 1),
+        &OpenGate,
+    )?;
+    moves_alike(
+        &rt,
+        alloc,
+        &image,
+        crew_of(4, Layout::Split, 2, 2),
+        &OpenGate,
+    )?;
+    moves_alike(
+        &rt,
+        alloc,
+        &image,
+        crew_of(16, Layout::Split, 1, 5),
+        &OpenGate,
+    )?;
     Ok(())
 }
 
@@ -87,7 +129,13 @@ fn two_workers_are_under_way_together(rt: HostRuntime) -> Result<(), Fail> {
     let alloc = rt.alloc();
     let image = make_image(alloc, 100_000, 1)?;
     let gate = Meeting::new();
-    moves_alike(&rt, alloc, &image, crew_of(2, Layout::Split, 64, 1 << 24), &gate)?;
+    moves_alike(
+        &rt,
+        alloc,
+        &image,
+        crew_of(2, Layout::Split, 64, 1 << 24),
+        &gate,
+    )?;
     assert!(rt; gate.met(1));
     Ok(())
 }

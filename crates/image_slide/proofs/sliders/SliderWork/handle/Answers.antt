@@ -9,8 +9,8 @@ use Rattle.image_slide.specs.declared.pieces.Part.{Part}
 use Rattle.image_slide.proofs.Account.{job_done, job_handled}
 use Rattle.image_slide.proofs.sliders.SliderWork.handle.Goals as goal
 
-pub invariant_of-self : goal.invariant_of-self
-invariant_of-self c =
+pub invariant_of-self-in_err-make_room : goal.invariant_of-self-in_err-make_room
+invariant_of-self-in_err-make_room c =
     let i = c.self.invariant in let e = c.make_room.ensures in
     record {
       at = rw e.came i.at;
@@ -60,7 +60,6 @@ returns-clause-done c =
       c.saturating_sub-more.ensures,
       c.end_piece.ensures.value,
       c.first_piece.ensures.value,
-      ap length e.came,
     ) in
     rw (sym c.self.view_is, c.push_reserved.ensures.items, e.done)
     (job_handled c.args.item s.at s.kept c.widen.new.self _ _ s.came.items _ s.done.items d c.widen.ensures.items i.at enough)
