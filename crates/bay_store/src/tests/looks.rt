@@ -4,7 +4,7 @@ ghost use Rattle.bay_store.specs.Sharing.{MayAsk};
 ghost use Rattle.bay_store.specs.Wishes.{IsOne};
 
 use super::closing::{close_one, close_two};
-use super::{acted, entered, put, stamp, take, taken};
+use super::{acted, asked, entered, put, stamp, take, taken};
 use crate::{Bay, BayAsk, BayPass, BayWaiting, Counted, Peeked};
 use bay_core::{Layout, Op, Reply};
 use std::alloc::AllocError;
@@ -80,8 +80,11 @@ fn two_looks_share_a_turn(rt: HostRuntime) -> Result<(), AllocError> {
     let (bay, mut passes) = Bay::set_up(rt.alloc(), Layout::Split, 1, 2, 10)?;
     let two = taken(&bay, &mut passes).expect(&rt, "a pass");
     let one = taken(&bay, &mut passes).expect(&rt, "a pass");
-    let (one, stored) = put(&rt, &bay, one, Op::Push, 7);
-    assert_eq!(rt; stored.0, 1);
+    let one = asked(&rt, &bay, one, 7);
+    let one = entered(&rt, &bay, one);
+    let (one, stored) = acted(&rt, &bay, one);
+    assert_eq!(rt; stamp(&stored), (1, 4_294_967_296, Reply::Done));
+    let one = bay.leave(one);
     let one = asked_to_look(&rt, &bay, one, Op::Peek);
     let two = asked_to_look(&rt, &bay, two, Op::Sizes);
     let one = entered(&rt, &bay, one);
@@ -96,8 +99,6 @@ fn two_looks_share_a_turn(rt: HostRuntime) -> Result<(), AllocError> {
         (one.held(), one.draws(), two.held(), two.draws()),
         (1, 2, 1, 1)
     );
-    let (two, again) = counted(&rt, &bay, two);
-    assert_eq!(rt; again, (3, 0, Reply::Sizes(1, 0)));
     let closed = close_two(rt.alloc(), bay, one, two)?;
     assert_eq!(rt; closed.stack.as_slice(), [7].as_slice());
     assert_eq!(rt; (closed.queue.len(), closed.live), (0, 3));

@@ -1,9 +1,7 @@
-use Rattle.std.proofs.Common.{◌≡◌, ◌∙◌, Some, refl, sym, ap, arith}
+use Rattle.std.proofs.Common.{◌∙◌, refl, sym, ap}
 use Rattle.bay_rule.specs.declared.bay_use.BayUse.{BayUse}
-use Rattle.bay_core.specs.declared.calls.Layout.TheVariants.{Split, Paged}
-use Rattle.bay_rule.specs.Told.{most_in}
+use Rattle.bay_core.specs.declared.calls.Layout.TheVariants.{Split}
 use Rattle.bay_store.proofs.Steps.{may_see}
-use Rattle.bay_store.proofs.Words.{split_word}
 use Rattle.bay_store.proofs.looks.see.Goals as goal
 
 pub load-requires-clause-can : goal.load-requires-clause-can

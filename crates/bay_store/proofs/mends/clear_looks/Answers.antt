@@ -1,6 +1,6 @@
-use Rattle.std.proofs.Common.{◌∙◌, sym, ap, arith}
+use Rattle.std.proofs.Common.{◌∙◌, ap, arith}
 use Rattle.bay_rule.specs.Words.{looks_of}
-use Rattle.bay_store.proofs.KeySteps.{may_clear, cleared}
+use Rattle.bay_store.proofs.KeySteps.{may_clear}
 use Rattle.bay_store.proofs.mends.clear_looks.Goals as goal
 
 pub put-requires-clause-can : goal.put-requires-clause-can
