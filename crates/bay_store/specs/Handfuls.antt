@@ -25,7 +25,7 @@ use Rattle.bay_store.specs.Sharing.{view_calling, calling, acting}
 use Rattle.bay_store.specs.Acting.{KeepsLoaded, Spills, AddsNone}
 use Rattle.bay_store.specs.Adding.{Known, known}
 use Rattle.bay_store.specs.Calls.{MayRepeat}
-use Rattle.bay_store.specs.declared.rooms.TheConstants.{ROOMS}
+use Rattle.bay_rule.specs.declared.bay_use.TheConstants.{ROOMS}
 use Rattle.bay_store.specs.declared.acts.BayHandful.{BayHandful}
 use Rattle.bay_store.specs.declared.receipts.Handful.{Handful}
 use Rattle.bay_store.specs.declared.receipts.Stop.{Stop}

@@ -2,7 +2,7 @@ use Rattle.std.proofs.Common.{◌≡◌, ◌∙◌, ℕ, ◌+◌, ◌≤◌, ref
 use Rattle.bay_core.specs.History.{own}
 use Rattle.bay_rule.specs.declared.views.BayView.{BayView}
 use Rattle.bay_store.specs.Sharing.{MayAct, held_acted}
-use Rattle.bay_store.specs.declared.rooms.TheConstants.{ROOMS}
+use Rattle.bay_rule.specs.declared.bay_use.TheConstants.{ROOMS}
 use Rattle.bay_store.proofs.Acted.{fits, has_share, uses, still_due, adds, keeps, spills, view}
 use Rattle.bay_store.proofs.bays.Bay.act_one.Goals as goal
 
