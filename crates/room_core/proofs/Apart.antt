@@ -18,7 +18,7 @@ use Rattle.room_core.specs.Trace.{trace, occupant, last_room, is_closing, is_exi
 use Rattle.room_core.proofs.Backward.{ApartBack}
 use Rattle.room_core.proofs.Lists.{each_set, within}
 use Rattle.room_core.proofs.Invariant.{is_keeper, room_inside, above, holders, phase, Keeps, Fits, IsOpen, Inv}
-use Rattle.room_core.proofs.Rows.{above_zero, now_apart, fits_at, done_granted, admitted_open, still_at, looking_kept, glancing_kept, counting_kept, scanning_kept, peering_kept}
+use Rattle.room_core.proofs.Rows.{above_zero, now_apart, fits_at, done_granted, still_at, looking_kept, glancing_kept, counting_kept, scanning_kept, peering_kept, inside_open}
 use Rattle.room_core.proofs.Changes.{draw_kept, nobody_inside}
 use Rattle.room_core.proofs.Keys.{seized_kept, admitted_kept, pass_to_kept, pass_idle_kept, turning_kept, exiting_kept, left_kept}
 
@@ -126,11 +126,7 @@ leaving_kept w c (Inside room ticket first turn to) g h e =
     let f : Fits s (is_exiting t) (Inside room ticket first turn to) =
     fits_at s ps t c (Inside room ticket first turn to) g.inv e in
     let opened : get_or s.done room 0 < get_or s.grant room 0 =
-    (let a = admitted_open s ps t c g.inv in
-    let a' : 0 < ticket → ticket ≤ get_or s.grant room 0
-    → get_or s.done room 0 < get_or s.grant room 0 =
-    rw e at a in
-    a' f.0.some f.0.granted) in
+    inside_open s ps t c room ticket first turn to g.inv e in
     let io : IsOpen s.active (is_exiting t) (is_closing t) (last_room t) room =
     g.inv.open_room room opened in
     let small : room < length s.done =

@@ -19,7 +19,7 @@ use Rattle.room_core.specs.Runs.{World}
 use Rattle.room_core.specs.Moves.{leaving_move}
 use Rattle.room_core.proofs.Lists.{within}
 use Rattle.room_core.proofs.Invariant.{is_keeper, phase, Fits, Inv, holders, above}
-use Rattle.room_core.proofs.Rows.{admitted_open, fits_at}
+use Rattle.room_core.proofs.Rows.{fits_at, inside_open}
 use Rattle.room_core.proofs.Keys.{code_of_pack}
 use Rattle.room_core.proofs.Went.{Went, drawn, found, missed, saw_idle, saw_busy, won, lost, counted_wait, opened, opened_in, entered, left, left_last, exited, chose, ended, went_on, scanned, passed, rested}
 
@@ -92,10 +92,7 @@ awake_went c s ps t p act row (rested turn) i h e l k = record {
 awake_went c s ps t p act row (left room ticket first turn to short) i h e l k =
     let f : Fits s (is_exiting t) (Inside room ticket first turn to) =
     fits_at s ps t c (Inside room ticket first turn to) i e in
-    let a =
-    admitted_open s ps t c i in let a' : 0 < ticket → ticket ≤ get_or s.grant room 0
-    → get_or s.done room 0 < get_or s.grant room 0 = rw e at a in let open_now : get_or s.done
-    room 0 < get_or s.grant room 0 = a' f.0.some f.0.granted in
+    let open_now = inside_open s ps t c room ticket first turn to i e in
     let lt : room < length s.done =
     omega (arith, within s.grant room (omega (arith, open_now)), i.grants, i.dones) in
     let same =

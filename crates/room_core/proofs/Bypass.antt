@@ -12,7 +12,7 @@ use Rattle.room_core.specs.Active.{turn_of, code_of, pack, seen}
 use Rattle.room_core.specs.Trace.{is_exiting}
 use Rattle.room_core.proofs.Lists.{within}
 use Rattle.room_core.proofs.Invariant.{is_keeper, phase, Waits, Admitted, Opens, Fits, Inv}
-use Rattle.room_core.proofs.Rows.{admitted_open, fits_at}
+use Rattle.room_core.proofs.Rows.{fits_at, inside_open}
 use Rattle.room_core.proofs.Changes.{late}
 use Rattle.room_core.proofs.Keys.{no_keeper, idle_shut, code_of_pack, turn_of_pack, is_false}
 use Rattle.room_core.proofs.Went.{Went, drawn, found, missed, saw_idle, saw_busy, won, lost, counted_wait, opened, opened_in, entered, left, left_last, exited, chose, ended, went_on, scanned, passed, rested}
@@ -68,6 +68,27 @@ seen_due m active granted key q t None c h d f e =
           (ahead_low m (code_of active) q pos c h).1;
       admitted = λ _. omega arith;
     })
+
+-- the store of a grant: those that it lets in keep their bound, and the others count from the room behind
+opened_bounds : (m : ℕ) (s : Words) (now : Bool) (room ticket : ℕ) (first : Option ℕ) (turn to : ℕ) (new : Phase)
+    → ((q t g : ℕ) → BoundBy m (turn_of s.active) (code_of s.active) q t g Out
+    → BoundBy m (turn_of s.active) (code_of s.active) q t g new)
+    → Fits s now (Admitting room ticket first turn to) → room < m → room < length s.grant
+    → Conv m s (record s { grant = set s.grant room to }) (Admitting room ticket first turn to) new
+opened_bounds m s now room ticket first turn to new like_out f small within_grants q t g hq pos low late b =
+    let here : get_or (set s.grant room to) room 0 ≡ to =
+    get_or-set_same s.grant room to 0 within_grants in
+    let busy : 0 < code_of s.active = f.0.keeps.busy in
+    let l = late f.0.keeps.shut in let x = b.busy busy l in
+    elim (cases_eq q room) [
+      | inl same ↦ (let now : get_or (set s.grant room to) q 0 ≡ to = ap (λ v. get_or (set s.grant room to) v 0) same ∙ here in
+          record { seen_before = b.seen_before; idle = λ z. absurd (omega (arith, z, busy)); busy = λ _ l'. like_out q t g (x.2 (omega (arith, l', now))); admitted = λ _. x.0 })
+      | inr other ↦ (let now : get_or (set s.grant room to) q 0 ≡ get_or s.grant q 0 = get_or-set_other s.grant room q to 0 other in
+          let near : ahead m (code_of s.active) q < m =
+          elim (cases_lt (ahead m (code_of s.active) q) m)
+          [ inl n ↦ n | inr far ↦ absurd (other (ahead_last_at m (code_of s.active) room q f.0.code small hq far)) ] in
+          record { seen_before = b.seen_before; idle = λ z. absurd (omega (arith, z, busy)); busy = λ _ _. like_out q t g (x.1 near); admitted = λ le. absurd (omega (arith, le, now, l)) })
+    ]
 
 -- a step of somebody without the key, who holds the same ticket with the same first turn
 same_moves : (m : ℕ) (s : Words) (done : List ℕ) (ps : List Phase) (c : ℕ) (old p : Phase)
@@ -153,44 +174,18 @@ due_went m c s ps tr p act row (opened room first turn to) i h e d =
     let old : Phase = Admitting room 0 first turn to in
     let new : Phase = Out in
     let f : Fits s (is_exiting tr) old = fits_at s ps tr c old i e in
-    let within_grants : room < length s.grant =
-    omega (arith, within s.wait room (omega (arith, f.0.more)), i.grants) in
-    let small : room < m = omega (arith, within_grants, i.grants, d.rooms) in
+    let small : room < m = omega (arith, within s.wait room (omega (arith, f.0.more)), d.rooms) in
     let s' : Words = record s { grant = set s.grant room to } in
-    let here : get_or (set s.grant room to) room 0 ≡ to =
-    get_or-set_same s.grant room to 0 within_grants in
-    let busy : 0 < code_of s.active = f.0.keeps.busy in
-    let k : Conv m s s' old new = λ q t g hq pos low late b. (let l = late f.0.keeps.shut in let x = b.busy busy l in elim (cases_eq q room) [
-      | inl same ↦ (let now : get_or (set s.grant room to) q 0 ≡ to = ap (λ v. get_or (set s.grant room to) v 0) same ∙ here in
-          record { seen_before = b.seen_before; idle = λ z. absurd (omega (arith, z, busy)); busy = λ _ l'. x.2 (omega (arith, l', now)); admitted = λ _. x.0 })
-      | inr other ↦ (let now : get_or (set s.grant room to) q 0 ≡ get_or s.grant q 0 = get_or-set_other s.grant room q to 0 other in
-          let near : ahead m (code_of s.active) q < m =
-          elim (cases_lt (ahead m (code_of s.active) q) m)
-          [ inl n ↦ n | inr far ↦ absurd (other (ahead_last_at m (code_of s.active) room q f.0.code small hq far)) ] in
-          record { seen_before = b.seen_before; idle = λ z. absurd (omega (arith, z, busy)); busy = λ _ _. x.1 near; admitted = λ le. absurd (omega (arith, le, now, l)) })
-    ]) in
+    let k : Conv m s s' old new = opened_bounds m s (is_exiting tr) room 0 first turn to new (λ _ _ _ x. x) f small (omega (arith, small, i.grants, d.rooms)) in
     keeper_moves m s s' ps tr c old new i h e refl d d.rooms d.code k (λ _ f' ef pos. absurd (cc))
     tt
 due_went m c s ps tr p act row (opened_in room ticket first turn to) i h e d =
     let old : Phase = Admitting room (suc ticket) first turn to in
     let new : Phase = Inside room (suc ticket) first turn to in
     let f : Fits s (is_exiting tr) old = fits_at s ps tr c old i e in
-    let within_grants : room < length s.grant =
-    omega (arith, within s.wait room (omega (arith, f.0.more)), i.grants) in
-    let small : room < m = omega (arith, within_grants, i.grants, d.rooms) in
+    let small : room < m = omega (arith, within s.wait room (omega (arith, f.0.more)), d.rooms) in
     let s' : Words = record s { grant = set s.grant room to } in
-    let here : get_or (set s.grant room to) room 0 ≡ to =
-    get_or-set_same s.grant room to 0 within_grants in
-    let busy : 0 < code_of s.active = f.0.keeps.busy in
-    let k : Conv m s s' old new = λ q t g hq pos low late b. (let l = late f.0.keeps.shut in let x = b.busy busy l in elim (cases_eq q room) [
-      | inl same ↦ (let now : get_or (set s.grant room to) q 0 ≡ to = ap (λ v. get_or (set s.grant room to) v 0) same ∙ here in
-          record { seen_before = b.seen_before; idle = λ z. absurd (omega (arith, z, busy)); busy = λ _ l'. x.2 (omega (arith, l', now)); admitted = λ _. x.0 })
-      | inr other ↦ (let now : get_or (set s.grant room to) q 0 ≡ get_or s.grant q 0 = get_or-set_other s.grant room q to 0 other in
-          let near : ahead m (code_of s.active) q < m =
-          elim (cases_lt (ahead m (code_of s.active) q) m)
-          [ inl n ↦ n | inr far ↦ absurd (other (ahead_last_at m (code_of s.active) room q f.0.code small hq far)) ] in
-          record { seen_before = b.seen_before; idle = λ z. absurd (omega (arith, z, busy)); busy = λ _ _. x.1 near; admitted = λ le. absurd (omega (arith, le, now, l)) })
-    ]) in
+    let k : Conv m s s' old new = opened_bounds m s (is_exiting tr) room (suc ticket) first turn to new (λ _ _ _ x. x) f small (omega (arith, small, i.grants, d.rooms)) in
     keeper_moves m s s' ps tr c old new i h e refl d d.rooms d.code k (λ x. x) tt
 due_went m c s ps tr p act row (entered room ticket first to) i h e d =
     let w : Admitted s room ticket to = fits_at s ps tr c (Turning room ticket first to) i e in
@@ -206,14 +201,8 @@ due_went m c s ps tr p act row (left room ticket first turn to short) i h e d =
     same_moves m s (set s.done room (get_or s.done room 0 + 1)) ps c
     (Inside room ticket first turn to) Out h e d refl refl (λ _ f ef pos. absurd (cc)) tt
 due_went m c s ps tr p act row (left_last room ticket first turn to full) i h e d =
-    let f : Fits s (is_exiting tr) (Inside room ticket first turn to) =
-    fits_at s ps tr c (Inside room ticket first turn to) i e in
     let opened_now : get_or s.done room 0 < get_or s.grant room 0 =
-    (let a = admitted_open s ps tr c i in
-    let a' : 0 < ticket → ticket ≤ get_or s.grant room 0
-    → get_or s.done room 0 < get_or s.grant room 0 =
-    rw e at a in
-    a' f.0.some f.0.granted) in
+    inside_open s ps tr c room ticket first turn to i e in
     let plain : is_keeper d.key ≡ false =
     is_false (is_keeper d.key)
     (λ kk.

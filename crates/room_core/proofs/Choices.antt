@@ -23,12 +23,13 @@ use Rattle.room_core.proofs.Admitting.{length_opened, draws-reverse}
 use Rattle.room_core.proofs.Backward.{draws, last_to}
 use Rattle.room_core.proofs.Lists.{each_set, within}
 use Rattle.room_core.proofs.Invariant.{phase, is_keeper, Fits, Inv}
-use Rattle.room_core.proofs.Rows.{fits_at, admitted_open}
+use Rattle.room_core.proofs.Rows.{fits_at, inside_open}
 use Rattle.room_core.proofs.Bypass.{others_none}
 use Rattle.room_core.proofs.Keys.{code_of_pack, is_false}
 use Rattle.room_core.proofs.Marks.{MarkedAt}
 use Rattle.room_core.proofs.Told.{Tie, moment}
 use Rattle.room_core.proofs.Went.{Went, found, missed, won, counted_wait, opened, opened_in, left, left_last, exited, chose, ended, went_on, scanned, passed, rested, by_happens}
+use Rattle.room_core.proofs.Late.{openings_onto}
 use Rattle.room_core.proofs.Apart.{Good}
 
 -- what a load of a wait or a grant gives
@@ -136,15 +137,7 @@ nobody_left : (c : ℕ) (s : Words) (ps : List Phase) (t : List Item) (room tick
     → Inv s ps t → phase ps c ≡ Inside room ticket first turn to
     → ((r : ℕ) → get_or s.done r 0 ≡ get_or s.grant r 0) → ⊥
 nobody_left c s ps t room ticket first turn to i e shut =
-    let f : Fits s (is_exiting t) (Inside room ticket first turn to) =
-    fits_at s ps t c (Inside room ticket first turn to) i e in
-    let opened_now : get_or s.done room 0 < get_or s.grant room 0 =
-    (let a = admitted_open s ps t c i in
-    let a' : 0 < ticket → ticket ≤ get_or s.grant room 0
-    → get_or s.done room 0 < get_or s.grant room 0 =
-    rw e at a in
-    a' f.0.some f.0.granted) in
-    omega (arith, opened_now, shut room)
+    omega (arith, inside_open s ps t c room ticket first turn to i e, shut room)
 
 -- the same after an idle word: no keeper comes about but by a caller that seizes it
 alone_own : (c : ℕ) (s : Words) (ps : List Phase) (t : List Item) (p : Phase) (act : Act) (row : Row)
@@ -176,16 +169,6 @@ alone_own c s ps t p act row (scanned room turn k') i e shut none k = absurd (cc
 alone_own c s ps t p act row (passed turn k') i e shut none k = absurd (cc)
 alone_own c s ps t p act row (rested turn) i e shut none k = absurd (cc)
 alone_own c s ps t p act row went i e shut none k = (refl, shut)
-
--- the openings among these items
-openings_onto : (i : Option Item) (t : List Item)
-    → openings (onto i t) ≡ openings t + openings (onto i [])
-openings_onto None t = omega arith
-openings_onto (Some (Opened turn r from to)) t = omega arith
-openings_onto (Some (Entered c r)) t = omega arith
-openings_onto (Some (Left c)) t = omega arith
-openings_onto (Some (ExitBegun r)) t = omega arith
-openings_onto (Some (ExitEnded r)) t = omega arith
 
 none_gained : (one two : Option Item) (t : List Item) → openings (onto two (onto one t)) ≡ 0
     → (openings t ≡ 0) × (openings (onto two (onto one [])) ≡ 0)

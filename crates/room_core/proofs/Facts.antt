@@ -22,7 +22,7 @@ use Rattle.room_core.proofs.Lists.{within}
 use Rattle.room_core.proofs.Invariant.{ticket_of, room_of, is_keeper, phase, Admitted, Fits, room_inside}
 use Rattle.room_core.proofs.Rows.{admitted_open, fits_at}
 use Rattle.room_core.proofs.Due.{Named}
-use Rattle.room_core.proofs.Marks.{MarkAt, Shut as Shut_}
+use Rattle.room_core.proofs.Marks.{Shut as Shut_, mark_at, MarkOf}
 use Rattle.room_core.proofs.Bypass.{inside_due}
 use Rattle.room_core.proofs.Sums.{wait_small, done_small, active_small}
 use mathlib.Core.Option.{some}
@@ -289,10 +289,7 @@ module _ (m n : ℕ) (few : m ≤ 7) (crowd : n ≤ 64) (w : World) (reached : R
       let a = sound in
       let f : Fits s (is_exiting t) (Admitting room ticket first turn to) =
       fits_at s ps t c (Admitting room ticket first turn to) a.good.inv e in
-      let mm : MarkAt (turn_of s.active) (openings t) (is_closing t) (is_exiting t) (last_opening t) (Admitting room ticket first turn to) =
-      subst
-      (MarkAt (turn_of s.active) (openings t) (is_closing t) (is_exiting t) (last_opening t)) e
-      (a.more.marks.each c) in
+      let mm : MarkOf s t (Admitting room ticket first turn to) = mark_at s ps t c _ a.more.marks e in
       record {
         before = mm.0 ∙ sym f.0.keeps.turn_is;
         shut = shut_at t mm.1 (last_opening t) refl (lasts w.history a.more.lawful);
@@ -337,10 +334,7 @@ module _ (m n : ℕ) (few : m ≤ 7) (crowd : n ≤ 64) (w : World) (reached : R
       let a = sound in
       let f : Fits s (is_exiting t) (Exiting room turn) =
       fits_at s ps t c (Exiting room turn) a.good.inv e in
-      let mm : MarkAt (turn_of s.active) (openings t) (is_closing t) (is_exiting t) (last_opening t) (Exiting room turn) =
-      subst
-      (MarkAt (turn_of s.active) (openings t) (is_closing t) (is_exiting t) (last_opening t)) e
-      (a.more.marks.each c) in
+      let mm : MarkOf s t (Exiting room turn) = mark_at s ps t c _ a.more.marks e in
       let o =
       mm.1.opening in let turn_is : o.turn ≡ turn = (lasts w.history a.more.lawful).turn o
       mm.1.last_is
@@ -389,10 +383,7 @@ module _ (m n : ℕ) (few : m ≤ 7) (crowd : n ≤ 64) (w : World) (reached : R
       let a = sound in
       let f : Fits s (is_exiting t) (Exiting room turn) =
       fits_at s ps t c (Exiting room turn) a.good.inv e in
-      let mm : MarkAt (turn_of s.active) (openings t) (is_closing t) (is_exiting t) (last_opening t) (Exiting room turn) =
-      subst
-      (MarkAt (turn_of s.active) (openings t) (is_closing t) (is_exiting t) (last_opening t)) e
-      (a.more.marks.each c) in
+      let mm : MarkOf s t (Exiting room turn) = mark_at s ps t c _ a.more.marks e in
       f.0.turn_is ∙ sym mm.0
 
   -- where all are out the gate is shut

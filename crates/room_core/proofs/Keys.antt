@@ -11,7 +11,7 @@ use Rattle.room_core.specs.Active.{turn_of, code_of}
 use Rattle.room_core.specs.Trace.{occupant, last_room, is_closing, is_exiting}
 use Rattle.room_core.proofs.Lists.{each_set, within}
 use Rattle.room_core.proofs.Invariant.{ticket_of, room_of, is_keeper, room_inside, above, holders, phase, Admitted, Fits, IsOpen, Inv}
-use Rattle.room_core.proofs.Rows.{above_one, above_zero, admitted_open, done_granted, one_set, holders_set, fits_at}
+use Rattle.room_core.proofs.Rows.{above_one, above_zero, done_granted, one_set, holders_set, fits_at, inside_open}
 use Rattle.room_core.proofs.Changes.{above_other, keeper_busy, fits_waiting, fits_left, late}
 
 -- the others are no keepers, where one is or none can be
@@ -308,10 +308,7 @@ left_kept s ps t t' c room ticket first turn to p i h e fp none in_none ex la od
     let o = get_or s.done room 0 in
     let d' : List ℕ = set s.done room (o + 1) in
     let opened : o < get_or s.grant room 0 =
-    (let a = admitted_open s ps t c i in
-    let a' : 0 < ticket → ticket ≤ get_or s.grant room 0 → o < get_or s.grant room 0 =
-    rw e at a in
-    a' f.0.some f.0.granted) in
+    inside_open s ps t c room ticket first turn to i e in
     let small : room < length s.wait = within s.wait room (omega (arith, opened, i.granted room)) in
     let small' : room < length s.done = omega (arith, small, i.dones) in
     let io : IsOpen s.active (is_exiting t) (is_closing t) (last_room t) room =

@@ -24,13 +24,18 @@ LateAt grant count drawn_at p =
 pub record Late (s : Words) (ps : List Phase) (history : List Moment) : Type 0 where
   pub each : (d : ℕ) → LateAt s.grant (openings (trace history)) (since d history) (phase ps d)
 
+-- the openings among these items
+pub openings_onto : (one : Option Item) (t : List Item)
+    → openings (onto one t) ≡ openings t + openings (onto one [])
+openings_onto None t = omega arith
+openings_onto (Some (Opened turn r from to)) t = omega arith
+openings_onto (Some (Entered c r)) t = omega arith
+openings_onto (Some (Left c)) t = omega arith
+openings_onto (Some (ExitBegun r)) t = omega arith
+openings_onto (Some (ExitEnded r)) t = omega arith
+
 pub onto_more : (one : Option Item) (t : List Item) → openings t ≤ openings (onto one t)
-onto_more None t = omega arith
-onto_more (Some (Opened turn r from to)) t = omega arith
-onto_more (Some (Entered c r)) t = omega arith
-onto_more (Some (Left c)) t = omega arith
-onto_more (Some (ExitBegun r)) t = omega arith
-onto_more (Some (ExitEnded r)) t = omega arith
+onto_more one t = omega (arith, openings_onto one t)
 
 since_act : (act : Act) (history : List Moment) (old n : ℕ) → old ≤ n → openings (trace history) ≤ n
     → since_by act history old ≤ n
@@ -67,6 +72,36 @@ late_still grant ps count c new old p h same here all =
     (subst (λ (z : ℕ). LateAt grant count z p) (sym (same c)) here)
     (λ d _. subst (λ (z : ℕ). LateAt grant count z (phase ps d)) (sym (same d)) (all d))
 
+-- a step that opens no room, and no caller draws by it
+late_on : (c : ℕ) (s now : Words) (ps : List Phase) (history after : List Moment) (next : Phase) → c < length ps
+    → now.grant ≡ s.grant → openings (trace after) ≡ openings (trace history)
+    → ((d : ℕ) → since d after ≡ since d history)
+    → LateAt s.grant (openings (trace history)) (since c history) next → Late s ps history
+    → Late now (set ps c next) after
+late_on c s now ps history after next h grants count same here k = record {
+  each = rw (grants, count)
+      (late_still s.grant ps (openings (trace history)) c (λ d. since d after) (λ d. since d history) next h same here k.each);
+}
+
+-- and of whose caller the next phase has the ticket of the one before
+late_as : (c : ℕ) (s now : Words) (ps : List Phase) (history after : List Moment) (p next : Phase) → c < length ps
+    → phase ps c ≡ p → now.grant ≡ s.grant → openings (trace after) ≡ openings (trace history)
+    → ((d : ℕ) → since d after ≡ since d history)
+    → (LateAt s.grant (openings (trace history)) (since c history) p
+    → LateAt s.grant (openings (trace history)) (since c history) next)
+    → Late s ps history → Late now (set ps c next) after
+late_as c s now ps history after p next h e grants count same like k =
+    late_on c s now ps history after next h grants count same
+    (like (subst (LateAt s.grant (openings (trace history)) (since c history)) e (k.each c))) k
+
+-- after an opening all were drawn before it
+all_late : (now : Words) (ps : List Phase) (history after : List Moment)
+    → openings (trace history) < openings (trace after) → ((d : ℕ) → since d after ≡ since d history)
+    → Late now ps after
+all_late now ps history after more same = record {
+  each = λ d _ _. omega (arith, since_openings d history, same d, more);
+}
+
 pub late_went : (c : ℕ) (s : Words) (ps : List Phase) (history : List Moment) (p : Phase) (act : Act) (row : Row)
     → Went c s p act row → Inv s ps (trace history) → c < length ps → phase ps c ≡ p
     → Late s ps history → Late (touched s row.1.touch) (set ps c row.0) (moment c act row ∷ history)
@@ -82,91 +117,17 @@ late_went c s ps history p act row (drawn r hr) i h e k = record {
       (cond-false (eqb c d) (openings (trace history)) (since d history)
       (ne_eqb c d (λ q. ne (sym q))))) (k.each d));
 }
-late_went c s ps history p act row (found room ticket first le) i h e k =
-    let n : ℕ = openings (trace history) in
-    record {
-      each =
-          late_still s.grant ps n c (λ d. since d (moment c act row ∷ history))
-          (λ d. since d history) row.0 h (λ d. same_both (eqb c d) (since d history))
-          (subst (LateAt s.grant n (since c history)) e (k.each c)) k.each;
-    }
-late_went c s ps history p act row (missed room ticket first le) i h e k =
-    let n : ℕ = openings (trace history) in
-    record {
-      each =
-          late_still s.grant ps n c (λ d. since d (moment c act row ∷ history))
-          (λ d. since d history) row.0 h (λ d. same_both (eqb c d) (since d history))
-          (subst (LateAt s.grant n (since c history)) e (k.each c)) k.each;
-    }
-late_went c s ps history p act row (saw_idle room ticket first z) i h e k =
-    let n : ℕ = openings (trace history) in
-    record {
-      each =
-          late_still s.grant ps n c (λ d. since d (moment c act row ∷ history))
-          (λ d. since d history) row.0 h (λ d. same_both (eqb c d) (since d history))
-          (subst (LateAt s.grant n (since c history)) e (k.each c)) k.each;
-    }
-late_went c s ps history p act row (saw_busy room ticket first) i h e k =
-    let n : ℕ = openings (trace history) in
-    record {
-      each =
-          late_still s.grant ps n c (λ d. since d (moment c act row ∷ history))
-          (λ d. since d history) row.0 h (λ d. same_both (eqb c d) (since d history))
-          (subst (LateAt s.grant n (since c history)) e (k.each c)) k.each;
-    }
-late_went c s ps history p act row (won room ticket first) i h e k =
-    let n : ℕ = openings (trace history) in
-    record {
-      each =
-          late_still s.grant ps n c (λ d. since d (moment c act row ∷ history))
-          (λ d. since d history) row.0 h (λ d. same_both (eqb c d) (since d history))
-          (subst (LateAt s.grant n (since c history)) e (k.each c)) k.each;
-    }
-late_went c s ps history p act row (lost room ticket first idle) i h e k =
-    let n : ℕ = openings (trace history) in
-    record {
-      each =
-          late_still s.grant ps n c (λ d. since d (moment c act row ∷ history))
-          (λ d. since d history) row.0 h (λ d. same_both (eqb c d) (since d history))
-          (subst (LateAt s.grant n (since c history)) e (k.each c)) k.each;
-    }
-late_went c s ps history p act row (counted_wait room ticket first turn) i h e k =
-    let n : ℕ = openings (trace history) in
-    record {
-      each =
-          late_still s.grant ps n c (λ d. since d (moment c act row ∷ history))
-          (λ d. since d history) row.0 h (λ d. same_both (eqb c d) (since d history))
-          (subst (LateAt s.grant n (since c history)) e (k.each c)) k.each;
-    }
-late_went c s ps history p act row (entered room ticket first to) i h e k =
-    let n : ℕ = openings (trace history) in
-    record {
-      each =
-          late_still s.grant ps n c (λ d. since d (moment c act row ∷ history))
-          (λ d. since d history) row.0 h (λ d. same_both (eqb c d) (since d history))
-          (subst (LateAt s.grant n (since c history)) e (k.each c)) k.each;
-    }
-late_went c s ps history p act row (opened room first turn to) i h e k = record {
-  each =
-      λ d _ _.
-      let u = since_openings d history in
-      let q : since d (moment c act row ∷ history) ≡ since d history =
-      same_both (eqb c d) (since d history) in
-      omega arith;
-}
-late_went c s ps history p act row (opened_in room ticket first turn to) i h e k = record {
-  each =
-      λ d _ _.
-      let u = since_openings d history in
-      let q : since d (moment c act row ∷ history) ≡ since d history =
-      same_both (eqb c d) (since d history) in
-      omega arith;
-}
+late_went c s ps history p act row (found room ticket first le) i h e k = late_as c s _ ps history _ p row.0 h e refl refl (λ d. same_both (eqb c d) (since d history)) (λ x. x) k
+late_went c s ps history p act row (missed room ticket first le) i h e k = late_as c s _ ps history _ p row.0 h e refl refl (λ d. same_both (eqb c d) (since d history)) (λ x. x) k
+late_went c s ps history p act row (saw_idle room ticket first z) i h e k = late_as c s _ ps history _ p row.0 h e refl refl (λ d. same_both (eqb c d) (since d history)) (λ x. x) k
+late_went c s ps history p act row (saw_busy room ticket first) i h e k = late_as c s _ ps history _ p row.0 h e refl refl (λ d. same_both (eqb c d) (since d history)) (λ x. x) k
+late_went c s ps history p act row (won room ticket first) i h e k = late_as c s _ ps history _ p row.0 h e refl refl (λ d. same_both (eqb c d) (since d history)) (λ x. x) k
+late_went c s ps history p act row (lost room ticket first idle) i h e k = late_as c s _ ps history _ p row.0 h e refl refl (λ d. same_both (eqb c d) (since d history)) (λ x. x) k
+late_went c s ps history p act row (counted_wait room ticket first turn) i h e k = late_as c s _ ps history _ p row.0 h e refl refl (λ d. same_both (eqb c d) (since d history)) (λ x. x) k
+late_went c s ps history p act row (entered room ticket first to) i h e k = late_as c s _ ps history _ p row.0 h e refl refl (λ d. same_both (eqb c d) (since d history)) (λ x. x) k
+late_went c s ps history p act row (opened room first turn to) i h e k =
+    all_late _ _ history _ (omega arith) (λ d. same_both (eqb c d) (since d history))
+late_went c s ps history p act row (opened_in room ticket first turn to) i h e k =
+    all_late _ _ history _ (omega arith) (λ d. same_both (eqb c d) (since d history))
 late_went c s ps history p act row went i h e k =
-    let n : ℕ = openings (trace history) in
-    record {
-      each =
-          late_still s.grant ps n c (λ d. since d (moment c act row ∷ history))
-          (λ d. since d history) row.0 h (λ d. same_both (eqb c d) (since d history))
-          (λ z _. absurd (omega arith)) k.each;
-    }
+    late_on c s _ ps history _ row.0 h refl refl (λ d. same_both (eqb c d) (since d history)) (λ z _. absurd (omega arith)) k

@@ -10,7 +10,7 @@ use Rattle.room_core.specs.Trace.{is_exiting, onto}
 use Rattle.room_core.specs.Gate.{leaver}
 use Rattle.room_core.proofs.Lists.{each_set}
 use Rattle.room_core.proofs.Invariant.{is_keeper, phase, Fits, Inv}
-use Rattle.room_core.proofs.Rows.{admitted_open, fits_at}
+use Rattle.room_core.proofs.Rows.{fits_at, inside_open}
 use Rattle.room_core.proofs.Keys.{no_keeper}
 use Rattle.room_core.proofs.Went.{Went, drawn, found, missed, saw_idle, saw_busy, won, lost, counted_wait, opened, opened_in, entered, left, left_last, exited, chose, ended, went_on, scanned, passed, rested}
 
@@ -45,12 +45,7 @@ none_exiting : (s : Words) (ps : List Phase) (t : List Item) (c room ticket : �
     → Inv s ps t → phase ps c ≡ Inside room ticket first turn to → (d : ℕ)
     → is_keeper (phase ps d) ≡ true → ⊥
 none_exiting s ps t c room ticket first turn to i e d =
-    let f : Fits s (is_exiting t) (Inside room ticket first turn to) =
-    fits_at s ps t c (Inside room ticket first turn to) i e in
-    let a =
-    admitted_open s ps t c i in let a' : 0 < ticket → ticket ≤ get_or s.grant room 0
-    → get_or s.done room 0 < get_or s.grant room 0 = rw e at a in
-    no_keeper s ps t d i (inl (room, a' f.0.some f.0.granted))
+    no_keeper s ps t d i (inl (room, inside_open s ps t c room ticket first turn to i e))
 
 pub leaver_went : (c : ℕ) (s : Words) (ps : List Phase) (t : List Item) (p : Phase) (act : Act) (row : Row)
     → Went c s p act row → Inv s ps t → c < length ps → phase ps c ≡ p → LeftLast ps t

@@ -15,7 +15,7 @@ use Rattle.room_core.specs.Trace.{is_exiting, is_closing, trace, onto, last_open
 use Rattle.room_core.specs.Runs.{Moment}
 use Rattle.room_core.proofs.Lists.{each_set, within}
 use Rattle.room_core.proofs.Invariant.{ticket_of, room_of, is_keeper, phase, Fits, Inv}
-use Rattle.room_core.proofs.Rows.{admitted_open, fits_at}
+use Rattle.room_core.proofs.Rows.{admitted_open, fits_at, inside_open}
 use Rattle.room_core.proofs.Changes.{late}
 use Rattle.room_core.proofs.Keys.{no_keeper, idle_shut, code_of_pack, turn_of_pack, is_false}
 use Rattle.room_core.proofs.Went.{Went, drawn, found, missed, saw_idle, saw_busy, won, lost, counted_wait, opened, opened_in, entered, left, left_last, exited, chose, ended, went_on, scanned, passed, rested}
@@ -70,6 +70,14 @@ abbrev pub MarkedAt : Words → List Phase → List Item → Type 0
 MarkedAt s ps t =
     Marked s ps (openings t) (lefts t) (is_closing t) (is_exiting t) (last_opening t)
     (λ r. last_to r t)
+
+-- what is marked of a phase, and of a caller's
+abbrev pub MarkOf : Words → List Item → Phase → Type 0
+MarkOf s t p = MarkAt (turn_of s.active) (openings t) (is_closing t) (is_exiting t) (last_opening t) p
+
+pub mark_at : (s : Words) (ps : List Phase) (t : List Item) (c : ℕ) (p : Phase) → MarkedAt s ps t
+    → phase ps c ≡ p → MarkOf s t p
+mark_at s ps t c p k e = subst (MarkOf s t) e (k.each c)
 
 pub mark_none : (turn count : ℕ) (closing exiting : Bool) (last : Option Opening) (p : Phase)
     → is_keeper p ≡ false → MarkAt turn count closing exiting last p
@@ -141,9 +149,7 @@ mark_opened s ps t c room ticket first turn to p i h e k kp tp =
     omega (arith, within s.wait room (omega (arith, f.0.more)), i.grants) in
     let here : get_or (set s.grant room to) room 0 ≡ to = get_or-set_same s.grant room to 0 small in
     let m : (openings t + 1 ≡ turn_of s.active) × Shut (openings t) (is_closing t) (is_exiting t) =
-    subst
-    (MarkAt (turn_of s.active) (openings t) (is_closing t) (is_exiting t) (last_opening t)) e
-    (k.each c) in
+    mark_at s ps t c _ k e in
     let o : Opening = record { turn = turn; room = room; from = get_or s.grant room 0; to = to } in
     let count' = openings t + 1 in
     record {
@@ -286,8 +292,7 @@ mark_went c s ps t p act row (lost room ticket first idle) i h e k =
 mark_went c s ps t p act row (counted_wait room ticket first turn) i h e k =
     mark_still s ps _ _ _ _ _ _ c h k s.wait
     (Admitting room ticket first turn (get_or s.wait room 0))
-    (subst (MarkAt (turn_of s.active) (openings t) (is_closing t) (is_exiting t) (last_opening t)) e
-    (k.each c)) (subst (LowAt (last_opening t)) e (k.tickets c))
+    (mark_at s ps t c _ k e) (subst (LowAt (last_opening t)) e (k.tickets c))
 mark_went c s ps t p act row (opened room first turn to) i h e k =
     mark_opened s ps t c room 0 first turn to Out i h e k refl (λ z. absurd (omega arith))
 mark_went c s ps t p act row (opened_in room ticket first turn to) i h e k =
@@ -300,23 +305,14 @@ mark_went c s ps t p act row (entered room ticket first to) i h e k =
 mark_went c s ps t p act row (left room ticket first turn to short) i h e k =
     mark_left s ps t c room ticket first turn to Out (is_closing t) (is_exiting t) i h e k refl tt
 mark_went c s ps t p act row (left_last room ticket first turn to full) i h e k =
-    let f : Fits s (is_exiting t) (Inside room ticket first turn to) =
-    fits_at s ps t c (Inside room ticket first turn to) i e in
     let opened_now : get_or s.done room 0 < get_or s.grant room 0 =
-    (let a = admitted_open s ps t c i in
-    let a' : 0 < ticket → ticket ≤ get_or s.grant room 0
-    → get_or s.done room 0 < get_or s.grant room 0 =
-    rw e at a in
-    a' f.0.some f.0.granted) in
+    inside_open s ps t c room ticket first turn to i e in
     let o = k.open_now room opened_now in
     mark_left s ps t c room ticket first turn to (Exiting room turn) true true i h e k refl
     (o.count_is, o.here, refl, refl)
 mark_went c s ps t p act row (exited room turn) i h e k =
     let f : Fits s (is_exiting t) (Exiting room turn) = fits_at s ps t c (Exiting room turn) i e in
-    let m : MarkAt (turn_of s.active) (openings t) (is_closing t) (is_exiting t) (last_opening t) (Exiting room turn) =
-    subst
-    (MarkAt (turn_of s.active) (openings t) (is_closing t) (is_exiting t) (last_opening t)) e
-    (k.each c) in
+    let m : MarkOf s t (Exiting room turn) = mark_at s ps t c _ k e in
     record {
       grants = k.grants;
       each =
@@ -339,20 +335,16 @@ mark_went c s ps t p act row (exited room turn) i h e k =
     }
 mark_went c s ps t p act row (chose room turn k' w lt) i h e k =
     mark_still s ps _ _ _ _ _ _ c h k s.wait (Passing turn (Some k'))
-    (subst (MarkAt (turn_of s.active) (openings t) (is_closing t) (is_exiting t) (last_opening t)) e
-    (k.each c)) (λ o pos. absurd (omega (arith, pos)))
+    (mark_at s ps t c _ k e) (λ o pos. absurd (omega (arith, pos)))
 mark_went c s ps t p act row (ended room turn w le) i h e k =
     mark_still s ps _ _ _ _ _ _ c h k s.wait (Passing turn None)
-    (subst (MarkAt (turn_of s.active) (openings t) (is_closing t) (is_exiting t) (last_opening t)) e
-    (k.each c)) (λ o pos. absurd (omega (arith, pos)))
+    (mark_at s ps t c _ k e) (λ o pos. absurd (omega (arith, pos)))
 mark_went c s ps t p act row (went_on room turn k' w le ne) i h e k =
     mark_still s ps _ _ _ _ _ _ c h k s.wait (Scanning room turn (next_room s k'))
-    (subst (MarkAt (turn_of s.active) (openings t) (is_closing t) (is_exiting t) (last_opening t)) e
-    (k.each c)) (λ o pos. absurd (omega (arith, pos)))
+    (mark_at s ps t c _ k e) (λ o pos. absurd (omega (arith, pos)))
 mark_went c s ps t p act row (scanned room turn k') i h e k =
     mark_still s ps _ _ _ _ _ _ c h k s.wait (Peering room turn k' (get_or s.wait k' 0))
-    (subst (MarkAt (turn_of s.active) (openings t) (is_closing t) (is_exiting t) (last_opening t)) e
-    (k.each c)) (λ o pos. absurd (omega (arith, pos)))
+    (mark_at s ps t c _ k e) (λ o pos. absurd (omega (arith, pos)))
 mark_went c s ps t p act row (passed turn k') i h e k =
     let f : Fits s (is_exiting t) (Passing turn (Some k')) =
     fits_at s ps t c (Passing turn (Some k')) i e in
@@ -363,9 +355,7 @@ mark_went c s ps t p act row (passed turn k') i h e k =
     let turn_is : turn_of a ≡ turn + 1 =
     turn_of_pack (turn + 1) (k' + 1) (omega (arith, small, i.few)) in
     let m : (openings t ≡ turn_of s.active) × Shut (openings t) (is_closing t) (is_exiting t) =
-    subst
-    (MarkAt (turn_of s.active) (openings t) (is_closing t) (is_exiting t) (last_opening t)) e
-    (k.each c) in
+    mark_at s ps t c _ k e in
     mark_turn s ps _ _ _ _ _ _ c h k a (Counting k' 0 None (turn + 1)) f.0.shut
     (others_none s ps t c (Passing turn (Some k')) i e refl)
     (omega (arith, m.0, turn_is, f.0.turn_is), m.1) (λ z. absurd (omega (arith, z, code)))
@@ -374,9 +364,7 @@ mark_went c s ps t p act row (rested turn) i h e k =
     let f : Fits s (is_exiting t) (Passing turn None) = fits_at s ps t c (Passing turn None) i e in
     let turn_is : turn_of (pack turn 0) ≡ turn = turn_of_pack turn 0 (omega arith) in
     let m : (openings t ≡ turn_of s.active) × Shut (openings t) (is_closing t) (is_exiting t) =
-    subst
-    (MarkAt (turn_of s.active) (openings t) (is_closing t) (is_exiting t) (last_opening t)) e
-    (k.each c) in
+    mark_at s ps t c _ k e in
     mark_turn s ps _ _ _ _ _ _ c h k (pack turn 0) Out f.0.shut
     (others_none s ps t c (Passing turn None) i e refl) tt
     (λ _. (omega (arith, m.0, turn_is, f.0.turn_is), m.1)) (λ o pos. absurd (omega (arith, pos)))
@@ -392,9 +380,7 @@ lawful_went c s ps hi p act row (opened room first turn to) i h e k y =
     let f : Fits s (is_exiting t) (Admitting room 0 first turn to) =
     fits_at s ps t c (Admitting room 0 first turn to) i e in
     let m : (openings t + 1 ≡ turn_of s.active) × Shut (openings t) (is_closing t) (is_exiting t) =
-    subst
-    (MarkAt (turn_of s.active) (openings t) (is_closing t) (is_exiting t) (last_opening t)) e
-    (k.each c) in
+    mark_at s ps t c _ k e in
     let l : Told hi c (Admitting room 0 first turn to) = subst (Told hi c) e (y.each c) in
     ((omega (arith, m.0, f.0.keeps.turn_is), sym (k.grants room), f.1, sym l.loaded, m.1), tt)
 lawful_went c s ps hi p act row (opened_in room ticket first turn to) i h e k y =
@@ -402,9 +388,7 @@ lawful_went c s ps hi p act row (opened_in room ticket first turn to) i h e k y 
     let f : Fits s (is_exiting t) (Admitting room (suc ticket) first turn to) =
     fits_at s ps t c (Admitting room (suc ticket) first turn to) i e in
     let m : (openings t + 1 ≡ turn_of s.active) × Shut (openings t) (is_closing t) (is_exiting t) =
-    subst
-    (MarkAt (turn_of s.active) (openings t) (is_closing t) (is_exiting t) (last_opening t)) e
-    (k.each c) in
+    mark_at s ps t c _ k e in
     let l : Told hi c (Admitting room (suc ticket) first turn to) = subst (Told hi c) e (y.each c) in (
       (omega (arith, m.0, f.0.keeps.turn_is), sym (k.grants room), f.1, sym l.loaded, m.1),
       (
@@ -452,11 +436,7 @@ lawful_went c s ps hi p act row (left_last room ticket first turn to full) i h e
     let f : Fits s (is_exiting t) (Inside room ticket first turn to) =
     fits_at s ps t c (Inside room ticket first turn to) i e in
     let opened_now : get_or s.done room 0 < get_or s.grant room 0 =
-    (let a = admitted_open s ps t c i in
-    let a' : 0 < ticket → ticket ≤ get_or s.grant room 0
-    → get_or s.done room 0 < get_or s.grant room 0 =
-    rw e at a in
-    a' f.0.some f.0.granted) in
+    inside_open s ps t c room ticket first turn to i e in
     let o = k.open_now room opened_now in (
       refl,
       (
@@ -470,10 +450,7 @@ lawful_went c s ps hi p act row (left_last room ticket first turn to full) i h e
     )
 lawful_went c s ps hi p act row (exited room turn) i h e k y =
     let t = trace hi in
-    let m : MarkAt (turn_of s.active) (openings t) (is_closing t) (is_exiting t) (last_opening t) (Exiting room turn) =
-    subst
-    (MarkAt (turn_of s.active) (openings t) (is_closing t) (is_exiting t) (last_opening t)) e
-    (k.each c) in
+    let m : MarkOf s t (Exiting room turn) = mark_at s ps t c _ k e in
     ((m.1.opening, m.1.last_is, m.1.room_is, m.2, m.3), tt)
 lawful_went c s ps hi p act row went i h e k y = (tt, tt)
 
@@ -487,11 +464,7 @@ pairs_went c s ps hi p act row (left room ticket first turn to short) i h e k = 
     let f : Fits s (is_exiting t) (Inside room ticket first turn to) =
     fits_at s ps t c (Inside room ticket first turn to) i e in
     let opened_now : get_or s.done room 0 < get_or s.grant room 0 =
-    (let a = admitted_open s ps t c i in
-    let a' : 0 < ticket → ticket ≤ get_or s.grant room 0
-    → get_or s.done room 0 < get_or s.grant room 0 =
-    rw e at a in
-    a' f.0.some f.0.granted) in
+    inside_open s ps t c room ticket first turn to i e in
     let now = k.open_now room opened_now in
     let same : now.here.opening ≡ o = (let l = now.here.last_is in cc) in
     let from : now.here.opening.from ≡ o.from = ap (λ (z : Opening). z.from) same in

@@ -56,6 +56,19 @@ same_draw c act row h r t e q =
     ∙ sym (cond-true (eqb c c) (draw_by act h (last_draw c h)) (last_draw c h) (eq-eqb c c refl))
     ∙ q
 
+-- who is inside was let in by its last draw
+gone_inside : (c : ℕ) (s : Words) (ps : List Phase) (tr : List Item) (h : List Moment) (room ticket : ℕ) (first : Option ℕ) (turn to : ℕ)
+    → Inv s ps tr → phase ps c ≡ Inside room ticket first turn to → Told h c (Inside room ticket first turn to)
+    → (r t : ℕ) → last_draw c h ≡ Some (r, t) → t ≤ get_or s.grant r 0
+gone_inside c s ps tr h room ticket first turn to i e y r t drew =
+    let f : Fits s (is_exiting tr) (Inside room ticket first turn to) =
+    fits_at s ps tr c (Inside room ticket first turn to) i e in
+    let q : ◌≡◌ {A = Option (ℕ × ℕ)} (Some (room, ticket)) (Some (r, t)) =
+    sym (y.ticket f.0.some) ∙ drew in
+    let er : room ≡ r = ap (λ x. x.0) (some_is (room, ticket) (r, t) q) in
+    let et : ticket ≡ t = ap (λ x. x.1) (some_is (room, ticket) (r, t) q) in
+    subst (λ x. t ≤ get_or s.grant x 0) er (omega (arith, et, f.0.granted))
+
 gone_mine : (c : ℕ) (s : Words) (ps : List Phase) (tr : List Item) (h : List Moment) (p : Phase) (act : Act) (row : Row)
     → Went c s p act row → Inv s ps tr → phase ps c ≡ p → Told h c p
     → GoneAt s.grant (last_draw c h) p
@@ -71,23 +84,9 @@ gone_mine c s ps tr h p act row (opened room first turn to) i e y d r t eq z =
 gone_mine c s ps tr h p act row (opened_in room ticket first turn to) i e y d r t eq z =
     absurd (omega (arith, z))
 gone_mine c s ps tr h p act row (left room ticket first turn to short) i e y d r t eq z =
-    let f : Fits s (is_exiting tr) (Inside room ticket first turn to) =
-    fits_at s ps tr c (Inside room ticket first turn to) i e in
-    let q : ◌≡◌ {A = Option (ℕ × ℕ)} (Some (room, ticket)) (Some (r, t)) =
-    sym (y.ticket f.0.some) ∙ same_draw c Leave row h r t refl eq in
-    let er : room ≡ r =
-    ap (λ x. x.0) (some_is (room, ticket) (r, t) q) in let et : ticket ≡ t = ap (λ x. x.1)
-    (some_is (room, ticket) (r, t) q) in
-    subst (λ x. t ≤ get_or s.grant x 0) er (omega (arith, et, f.0.granted))
+    gone_inside c s ps tr h room ticket first turn to i e y r t (same_draw c Leave row h r t refl eq)
 gone_mine c s ps tr h p act row (left_last room ticket first turn to full) i e y d r t eq z =
-    let f : Fits s (is_exiting tr) (Inside room ticket first turn to) =
-    fits_at s ps tr c (Inside room ticket first turn to) i e in
-    let q : ◌≡◌ {A = Option (ℕ × ℕ)} (Some (room, ticket)) (Some (r, t)) =
-    sym (y.ticket f.0.some) ∙ same_draw c Leave row h r t refl eq in
-    let er : room ≡ r =
-    ap (λ x. x.0) (some_is (room, ticket) (r, t) q) in let et : ticket ≡ t = ap (λ x. x.1)
-    (some_is (room, ticket) (r, t) q) in
-    subst (λ x. t ≤ get_or s.grant x 0) er (omega (arith, et, f.0.granted))
+    gone_inside c s ps tr h room ticket first turn to i e y r t (same_draw c Leave row h r t refl eq)
 gone_mine c s ps tr h p act row went i e y d r t eq z = d r t (same_draw c Step row h r t refl eq) z
 
 module _ (rooms c : ℕ) (s : Words) (ps : List Phase) (h : List Moment) (i : Inv s ps (trace h)) (y : Tie s ps h) (k : MarkedAt s ps (trace h)) (u : Due rooms s ps) (g : (d : ℕ) → GoneAt s.grant (last_draw d h) (phase ps d)) where

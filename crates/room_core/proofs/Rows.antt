@@ -137,6 +137,19 @@ pub fits_at : (s : Words) (ps : List Phase) (t : List Item) (c : ℕ) (old : Pha
     → phase ps c ≡ old → Fits s (is_exiting t) old
 fits_at s ps t c old i e = subst (Fits s (is_exiting t)) e (i.each c)
 
+-- the room of who is inside is open: somebody that was let in has not left
+pub inside_open : (s : Words) (ps : List Phase) (t : List Item) (c room ticket : ℕ) (first : Option ℕ) (turn to : ℕ)
+    → Inv s ps t → phase ps c ≡ Inside room ticket first turn to
+    → get_or s.done room 0 < get_or s.grant room 0
+inside_open s ps t c room ticket first turn to i e =
+    let f : Fits s (is_exiting t) (Inside room ticket first turn to) =
+    fits_at s ps t c (Inside room ticket first turn to) i e in
+    let a = admitted_open s ps t c i in
+    let a' : 0 < ticket → ticket ≤ get_or s.grant room 0
+    → get_or s.done room 0 < get_or s.grant room 0 =
+    rw e at a in
+    a' f.0.some f.0.granted
+
 pub looking_kept : (s : Words) (ps : List Phase) (t : List Item) (c room ticket : ℕ) (first : Option ℕ)
     → Inv s ps t → c < length ps
     → phase ps c ≡ Looking room ticket first

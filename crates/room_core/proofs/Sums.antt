@@ -19,7 +19,7 @@ use Rattle.room_core.proofs.Invariant.{phase, Fits, Inv}
 use Rattle.room_core.proofs.Rows.{fits_at, done_granted}
 use Rattle.room_core.proofs.Keys.{turn_of_pack}
 use Rattle.room_core.proofs.Went.{Went, drawn, found, missed, saw_idle, saw_busy, won, lost, counted_wait, opened, opened_in, entered, left, left_last, exited, chose, ended, went_on, scanned, passed, rested}
-use Rattle.room_core.proofs.Marks.{MarkedAt, MarkAt}
+use Rattle.room_core.proofs.Marks.{MarkedAt, mark_at}
 
 abbrev pub total : List ℕ → ℕ
 total xs = sum_by (λ x. x) xs
@@ -178,9 +178,7 @@ sums_went n c s ps t made p act row few (passed turn k') i m h e free k =
     let turn_is : turn_of (pack (turn + 1) (k' + 1)) ≡ turn + 1 =
     turn_of_pack (turn + 1) (k' + 1) (omega (arith, small, i.few)) in
     let mm : (openings t ≡ turn_of s.active) × _ =
-    subst
-    (MarkAt (turn_of s.active) (openings t) (is_closing t) (is_exiting t) (last_opening t)) e
-    (m.each c) in
+    mark_at s ps t c _ m e in
     sums_still n s ps made _ c (Counting k' 0 None (turn + 1)) (pack (turn + 1) (k' + 1)) s.done h k
     (omega (arith, turn_is, f.0.turn_is, mm.0)) tt
 sums_went n c s ps t made p act row few (rested turn) i m h e free k =
@@ -189,6 +187,18 @@ sums_went n c s ps t made p act row few (rested turn) i m h e free k =
     (omega (arith, turn_of_pack turn 0 (omega arith), f.0.turn_is, k.turn)) tt
 sums_went n c s ps t made p act row few went i m h e free k =
     sums_still n s ps made _ c _ s.active s.done h k k.turn tt
+
+-- the count of departures of the room of who is inside exists, and has room for one more
+leaving_touch : (n c : ℕ) (s : Words) (ps : List Phase) (t : List Item) (made : List ℕ) (room ticket : ℕ) (first : Option ℕ) (turn to : ℕ)
+    → n ≤ 64 → Inv s ps t → phase ps c ≡ Inside room ticket first turn to
+    → Sums n s ps made (openings t) → (room < length s.done) × (get_or s.done room 0 + 1 < 2 ^ 64)
+leaving_touch n c s ps t made room ticket first turn to few i e k =
+    let f : Fits s (is_exiting t) (Inside room ticket first turn to) =
+    fits_at s ps t c (Inside room ticket first turn to) i e in (
+      omega
+          (arith, within s.wait room (omega (arith, f.0.some, f.0.granted, i.granted room)), i.dones),
+      omega (arith, done_small n s ps t made few i k room),
+    )
 
 -- what a row writes exists and fits
 pub can_touch : (n c : ℕ) (s : Words) (ps : List Phase) (t : List Item) (made : List ℕ) (p : Phase) (act : Act) (row : Row)
@@ -205,17 +215,7 @@ can_touch n c s ps t made p act row few (opened_in room ticket first turn to) i 
     fits_at s ps t c (Admitting room (suc ticket) first turn to) i e in
     omega (arith, within s.wait room (omega (arith, f.0.more)), i.grants)
 can_touch n c s ps t made p act row few (left room ticket first turn to short) i h e k =
-    let f : Fits s (is_exiting t) (Inside room ticket first turn to) =
-    fits_at s ps t c (Inside room ticket first turn to) i e in (
-      omega
-          (arith, within s.wait room (omega (arith, f.0.some, f.0.granted, i.granted room)), i.dones),
-      omega (arith, done_small n s ps t made few i k room),
-    )
+    leaving_touch n c s ps t made room ticket first turn to few i e k
 can_touch n c s ps t made p act row few (left_last room ticket first turn to full) i h e k =
-    let f : Fits s (is_exiting t) (Inside room ticket first turn to) =
-    fits_at s ps t c (Inside room ticket first turn to) i e in (
-      omega
-          (arith, within s.wait room (omega (arith, f.0.some, f.0.granted, i.granted room)), i.dones),
-      omega (arith, done_small n s ps t made few i k room),
-    )
+    leaving_touch n c s ps t made room ticket first turn to few i e k
 can_touch n c s ps t made p act row few went i h e k = tt

@@ -3,9 +3,9 @@ ghost use Rattle.std.specs.Prelude.{◌≡◌, ◌<◌, ◌≤◌, ◌++◌, ℕ
 ghost use Rattle.room_core.specs.Runs.{run, start};
 ghost use Rattle.room_core.specs.Schedule.{AcceptsFirst, FirstRefused};
 ghost use Rattle.room_core.specs.Order.{moments, trace_of};
-ghost use Rattle.room_core.specs.Openings.{opening_of, opened};
 ghost use Rattle.room_core.specs.Apart.{IsApart};
 ghost use Rattle.room_core.specs.ExitOnce.{IsOncePerOpening};
+ghost use Rattle.room_core.specs.Openings.{opening_of, opened};
 ghost use Rattle.room_core.specs.Admission.{IsAdmission};
 ghost use Rattle.room_core.specs.Choice.{IsCyclic};
 ghost use Rattle.room_core.specs.Bypass.{IsPrompt};

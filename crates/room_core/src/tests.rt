@@ -5,16 +5,45 @@ use crate::{
 use std::alloc::{AllocError, Global};
 use std::test::Fail;
 
-// One schedule, as how often a caller does an act, and what it leads to.
+// One schedule, as how often a caller does an act, and what it leads to: the trace is `before` and then
+// `trace`.
 #[derive(Drop)]
 struct Case<'a> {
     rooms: u8,
     callers: u32,
     acts: &'a [(u64, Act, u8)],
+    before: &'a [Item],
     trace: &'a [Item],
     active: u64,
     phases: &'a [&'static str],
 }
+
+// A caller draws for a room, makes so many steps, and leaves.
+fn draw(caller: u64, room: u64) -> (u64, Act, u8) {
+    (caller, Act::Draw(room), 1)
+}
+
+fn steps(caller: u64, many: u8) -> (u64, Act, u8) {
+    (caller, Act::Step, many)
+}
+
+fn leave(caller: u64) -> (u64, Act, u8) {
+    (caller, Act::Leave, 1)
+}
+
+// Caller 0 opens room 0 for itself alone, goes in, leaves and ends the exit code.
+const ALONE: [Item; 5] = [
+    Item::Opened {
+        turn: 1,
+        room: 0,
+        from: 0,
+        to: 1,
+    },
+    Item::Entered { caller: 0, room: 0 },
+    Item::Left { caller: 0 },
+    Item::ExitBegun { room: 0 },
+    Item::ExitEnded { room: 0 },
+];
 
 fn schedule(alloc: Global, parts: &[(u64, Act, u8)]) -> Result<Vec<(u64, Act)>, AllocError> {
     let mut acts = Vec::new(alloc);
@@ -51,7 +80,8 @@ fn schedules_lead_to_their_traces(rt: HostRuntime) -> Result<(), Fail> {
         Case {
             rooms: 4,
             callers: 1,
-            acts: &[(0, Act::Draw(0), 1), (0, Act::Step, 5)],
+            acts: &[draw(0, 0), steps(0, 5)],
+            before: &[],
             trace: &[opened(1, 0, 0, 1), Item::Entered { caller: 0, room: 0 }],
             active: 9,
             phases: &["Inside"],
@@ -61,12 +91,13 @@ fn schedules_lead_to_their_traces(rt: HostRuntime) -> Result<(), Fail> {
             rooms: 4,
             callers: 2,
             acts: &[
-                (0, Act::Draw(0), 1),
-                (0, Act::Step, 4),
-                (1, Act::Draw(0), 1),
-                (0, Act::Step, 1),
-                (1, Act::Step, 2),
+                draw(0, 0),
+                steps(0, 4),
+                draw(1, 0),
+                steps(0, 1),
+                steps(1, 2),
             ],
+            before: &[],
             trace: &[opened(1, 0, 0, 1), Item::Entered { caller: 0, room: 0 }],
             active: 9,
             phases: &["Inside", "Looking"],
@@ -76,23 +107,16 @@ fn schedules_lead_to_their_traces(rt: HostRuntime) -> Result<(), Fail> {
             rooms: 2,
             callers: 3,
             acts: &[
-                (0, Act::Draw(0), 1),
-                (0, Act::Step, 5),
-                (1, Act::Draw(0), 1),
-                (2, Act::Draw(1), 1),
-                (0, Act::Leave, 1),
-                (0, Act::Step, 5),
-                (2, Act::Step, 2),
+                draw(0, 0),
+                steps(0, 5),
+                draw(1, 0),
+                draw(2, 1),
+                leave(0),
+                steps(0, 5),
+                steps(2, 2),
             ],
-            trace: &[
-                opened(1, 0, 0, 1),
-                Item::Entered { caller: 0, room: 0 },
-                Item::Left { caller: 0 },
-                Item::ExitBegun { room: 0 },
-                Item::ExitEnded { room: 0 },
-                opened(2, 1, 0, 1),
-                Item::Entered { caller: 2, room: 1 },
-            ],
+            before: &ALONE,
+            trace: &[opened(2, 1, 0, 1), Item::Entered { caller: 2, room: 1 }],
             active: 18,
             phases: &["Out", "Looking", "Inside"],
         },
@@ -101,23 +125,16 @@ fn schedules_lead_to_their_traces(rt: HostRuntime) -> Result<(), Fail> {
             rooms: 2,
             callers: 2,
             acts: &[
-                (0, Act::Draw(0), 1),
-                (0, Act::Step, 5),
-                (0, Act::Leave, 1),
-                (0, Act::Step, 1),
-                (1, Act::Draw(1), 1),
-                (0, Act::Step, 4),
-                (1, Act::Step, 5),
+                draw(0, 0),
+                steps(0, 5),
+                leave(0),
+                steps(0, 1),
+                draw(1, 1),
+                steps(0, 4),
+                steps(1, 5),
             ],
-            trace: &[
-                opened(1, 0, 0, 1),
-                Item::Entered { caller: 0, room: 0 },
-                Item::Left { caller: 0 },
-                Item::ExitBegun { room: 0 },
-                Item::ExitEnded { room: 0 },
-                opened(2, 1, 0, 1),
-                Item::Entered { caller: 1, room: 1 },
-            ],
+            before: &ALONE,
+            trace: &[opened(2, 1, 0, 1), Item::Entered { caller: 1, room: 1 }],
             active: 18,
             phases: &["Out", "Inside"],
         },
@@ -126,23 +143,16 @@ fn schedules_lead_to_their_traces(rt: HostRuntime) -> Result<(), Fail> {
             rooms: 2,
             callers: 2,
             acts: &[
-                (0, Act::Draw(0), 1),
-                (0, Act::Step, 5),
-                (1, Act::Draw(0), 1),
-                (1, Act::Step, 2),
-                (0, Act::Leave, 1),
-                (0, Act::Step, 7),
-                (1, Act::Step, 2),
+                draw(0, 0),
+                steps(0, 5),
+                draw(1, 0),
+                steps(1, 2),
+                leave(0),
+                steps(0, 7),
+                steps(1, 2),
             ],
-            trace: &[
-                opened(1, 0, 0, 1),
-                Item::Entered { caller: 0, room: 0 },
-                Item::Left { caller: 0 },
-                Item::ExitBegun { room: 0 },
-                Item::ExitEnded { room: 0 },
-                opened(2, 0, 1, 2),
-                Item::Entered { caller: 1, room: 0 },
-            ],
+            before: &ALONE,
+            trace: &[opened(2, 0, 1, 2), Item::Entered { caller: 1, room: 0 }],
             active: 17,
             phases: &["Out", "Inside"],
         },
@@ -151,24 +161,20 @@ fn schedules_lead_to_their_traces(rt: HostRuntime) -> Result<(), Fail> {
             rooms: 2,
             callers: 3,
             acts: &[
-                (0, Act::Draw(0), 1),
-                (0, Act::Step, 5),
-                (1, Act::Draw(0), 1),
-                (1, Act::Step, 2),
-                (2, Act::Draw(1), 1),
-                (0, Act::Leave, 1),
-                (0, Act::Step, 5),
-                (2, Act::Step, 2),
-                (2, Act::Leave, 1),
-                (2, Act::Step, 5),
-                (1, Act::Step, 2),
+                draw(0, 0),
+                steps(0, 5),
+                draw(1, 0),
+                steps(1, 2),
+                draw(2, 1),
+                leave(0),
+                steps(0, 5),
+                steps(2, 2),
+                leave(2),
+                steps(2, 5),
+                steps(1, 2),
             ],
+            before: &ALONE,
             trace: &[
-                opened(1, 0, 0, 1),
-                Item::Entered { caller: 0, room: 0 },
-                Item::Left { caller: 0 },
-                Item::ExitBegun { room: 0 },
-                Item::ExitEnded { room: 0 },
                 opened(2, 1, 0, 1),
                 Item::Entered { caller: 2, room: 1 },
                 Item::Left { caller: 2 },
@@ -187,7 +193,9 @@ fn schedules_lead_to_their_traces(rt: HostRuntime) -> Result<(), Fail> {
         let ran = run(rt.alloc(), case.rooms, case.callers, &acts)
             .ok()
             .ok_or("refused")?;
-        assert_eq!(rt; ran.trace.as_slice(), case.trace);
+        let many = case.before.len();
+        assert_eq!(rt; ran.trace.get(..many), Some(case.before));
+        assert_eq!(rt; ran.trace.get(many..), Some(case.trace));
         assert_eq!(rt; ran.core.word(Word::Active), Some(case.active));
         assert_eq!(rt; ran.core.rooms(), case.rooms);
         assert_eq!(rt; ran.core.callers(), case.callers);
@@ -201,15 +209,12 @@ fn schedules_lead_to_their_traces(rt: HostRuntime) -> Result<(), Fail> {
 
 #[test]
 fn openings_are_those_of_the_trace(rt: HostRuntime) -> Result<(), Fail> {
-    let trace = [
-        opened(1, 0, 0, 1),
-        Item::Entered { caller: 0, room: 0 },
-        Item::Left { caller: 0 },
-        Item::ExitBegun { room: 0 },
-        Item::ExitEnded { room: 0 },
-        opened(2, 1, 0, 1),
-        Item::Entered { caller: 2, room: 1 },
-    ];
+    let mut trace = Vec::new(rt.alloc());
+    for item in ALONE {
+        trace.push(item)?;
+    }
+    trace.push(opened(2, 1, 0, 1))?;
+    trace.push(Item::Entered { caller: 2, room: 1 })?;
     let found = openings(rt.alloc(), &trace)?;
     let first = Opening {
         turn: 1,

@@ -63,3 +63,10 @@ module _ {V : Type 0} (site : TableId) (limit : ℕ) (starts : ℕ → V) where
             ∙ ap (newcomer site limit starts) (sym (t.0 ∙ h.long)))
             (at_end passes p q i at);
       })
+
+-- of two that are taken one by one, both are told
+pub two_of : {A : Type 0} (all rest less : List A) (one two : A) → all ≡ rest ++ two ∷ [] → rest ≡ less ++ one ∷ []
+    → length all ≡ 2 → all ≡ one ∷ two ∷ []
+two_of all rest [] one two a b long = a ∙ ap (λ l. l ++ two ∷ []) b
+two_of all rest (x ∷ less) one two a b long =
+    absurd (omega (arith, long, ap length a, ap length b, length-append rest (two ∷ []), length-append less (one ∷ [])))

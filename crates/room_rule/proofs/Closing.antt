@@ -31,7 +31,7 @@ use Rattle.room_rule.proofs.Lists.{none_there, of_map}
 use Rattle.room_rule.proofs.Counting.{each_is_in}
 use Rattle.room_rule.proofs.Slots.{all_home}
 use Rattle.room_rule.proofs.Acts.{Table, Rule, mine, sizes_of}
-use Rattle.room_rule.proofs.Seats.{with_views, So, Kept}
+use Rattle.room_rule.proofs.Seats.{with_views, with_seats, So, Kept}
 
 keeper_not : Keeper ≡ Pass → ⊥
 keeper_not e = cc
@@ -86,7 +86,7 @@ module _ {X S V : Type 0} (M : Meaning X S V) (m : ℕ) (k : Plan X) where
   -- a new seat is a keeper that has taken in no pass
   pub keeper_has_come : (s : Table M m k) (r : Rule M m k s)
       → IsQuiet M m k s r (s.views ++ keeper M.starts ∷ [])
-  unfolding with_views
+  unfolding with_seats
   keeper_has_come s r =
       let new = keeper M.starts in (
         with_views M m k s r (s.views ++ new ∷ [])
@@ -134,6 +134,7 @@ module _ {X S V : Type 0} (M : Meaning X S V) (m : ℕ) (k : Plan X) where
   pub takes_in : (s : Table M m k) (r : Rule M m k s) (id other : ℕ) (v w : Shown V)
       → IsAt s.views id v → IsAt s.views other w → v.role ≡ Keeper → w.role ≡ Pass → w.phase ≡ Out
       → IsQuiet M m k s r (set (set s.views id (taken_in v w)) other (gone M.starts))
+  unfolding with_seats
   takes_in s r id other v w at was is its_role out =
       let now = taken_in v w in let end = gone M.starts in
       let roll' = with_keeper r.roll w.who id in
@@ -144,37 +145,21 @@ module _ {X S V : Type 0} (M : Meaning X S V) (m : ℕ) (k : Plan X) where
       let so : So' id now =
       subst (λ (z : Role). Knows r.world r.content.views roll' id z now) (sym is)
       (all_in s r id v w mine_ its.made (its.phase ∙ out) its.user) in (
-        record {
-          world = r.world;
-          reached = r.reached;
-          content = r.content;
-          words = r.words;
-          sized = r.sized;
-          slots = r.slots;
-          slotted = r.slotted;
-          crowd = r.crowd;
-          few_callers = r.few_callers;
-          few_rooms = r.few_rooms;
-          roll = roll';
-          few_made = r.few_made;
-          each = λ j d e. ⊎_elim
-              (λ (t : (j ≡ other) × (end ≡ d)). subst (λ (z : Shown V). So' j z) t.1 tt)
-              (λ (t : (j ≢ other) × IsAt (set s.views id now) j d). ⊎_elim
-              (λ (q : (j ≡ id) × (now ≡ d)).
-              subst (λ (z : ℕ × Shown V). So' z.0 z.1) (λ i. (sym q.0 i, q.1 i)) so)
-              (λ (q : (j ≢ id) × IsAt s.views j d).
-              still_so r.world r.content.views r.roll w.who id other j its.seat t.0 d.role d
-              (r.each j d q.1))
-              (at_set s.views id j now d t.1))
-              (at_set (set s.views id now) other j end d e);
-          unmade = r.unmade;
-          kept = after_step (Kept M m k s r) (set s.views id now) other end (λ e. absurd (gone_not e))
-              (λ j d _ e. after_step (Kept M m k s r) s.views id now
-              (λ f. absurd (keeper_not (sym is ∙ f))) (λ i x _ f. r.kept i x f) j d e);
-          lawful = r.lawful;
-          past = r.past;
-          waits = r.waits;
-        },
+        with_seats M m k s r roll' (set (set s.views id now) other end) r.few_made
+            (λ j d e. ⊎_elim
+            (λ (t : (j ≡ other) × (end ≡ d)). subst (λ (z : Shown V). So' j z) t.1 tt)
+            (λ (t : (j ≢ other) × IsAt (set s.views id now) j d). ⊎_elim
+            (λ (q : (j ≡ id) × (now ≡ d)).
+            subst (λ (z : ℕ × Shown V). So' z.0 z.1) (λ i. (sym q.0 i, q.1 i)) so)
+            (λ (q : (j ≢ id) × IsAt s.views j d).
+            still_so r.world r.content.views r.roll w.who id other j its.seat t.0 d.role d
+            (r.each j d q.1))
+            (at_set s.views id j now d t.1))
+            (at_set (set s.views id now) other j end d e))
+            r.unmade
+            (after_step (Kept M m k s r) (set s.views id now) other end (λ e. absurd (gone_not e))
+            (λ j d _ e. after_step (Kept M m k s r) s.views id now
+            (λ f. absurd (keeper_not (sym is ∙ f))) (λ i x _ f. r.kept i x f) j d e)),
         refl,
       )
 

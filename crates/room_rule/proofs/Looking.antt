@@ -24,7 +24,7 @@ use Rattle.room_rule.specs.declared.views.Role.TheVariants.{Pass}
 use Rattle.room_rule.specs.declared.views.Shown.{Shown}
 use Rattle.room_rule.proofs.Opened.{numbered}
 use Rattle.room_rule.proofs.Acts.{Rule, mine}
-use Rattle.room_rule.proofs.Seats.{with_views, So, Kept}
+use Rattle.room_rule.proofs.Seats.{with_views, with_seats, So, Kept}
 
 module _ (m n : ℕ) (few : m ≤ 7) (crowd : n ≤ 64) (w : World) (reached : Reached m n w) where
   -- while a caller is inside, the active word is that of its room and turn
@@ -48,7 +48,7 @@ module _ (m n : ℕ) (few : m ≤ 7) (crowd : n ≤ 64) (w : World) (reached : R
 module _ {X S V : Type 0} (M : Meaning X S V) (m : ℕ) (k : Plan X) where
   pub looks_again : (slots id : ℕ) (me : Seated S V) → me.0.role ≡ Pass
       → IsNoEvent M m k slots id me 0 (λ n. n) (looked_by me)
-  unfolding with_views
+  unfolding with_seats
   looks_again slots id me is s r _ here _ =
       let v : Shown V = me.0 in let w = r.world in let t = trace w.history in
       let n : ℕ = get_or s.words 0 0 in let now : Shown V = looked_again v n in

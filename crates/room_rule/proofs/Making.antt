@@ -14,6 +14,7 @@ use Rattle.room_rule.specs.Laws.{Laws}
 use Rattle.room_rule.specs.View.{maker, hired, after_hire}
 use Rattle.room_rule.specs.Quietly.{IsQuiet}
 use Rattle.room_rule.proofs.Acts.{Table, Rule}
+use Rattle.room_rule.proofs.Seats.{with_seats}
 use Rattle.room_rule.specs.Openings.{world_openings}
 use Rattle.room_rule.specs.Rule.{Roll, Knows, is_waiting, ShowsKept, Ruled}
 use Rattle.room_rule.specs.declared.rule.Plan.{Plan}
@@ -172,6 +173,7 @@ module _ {X S V : Type 0} (M : Meaning X S V) (m : ℕ) (k : Plan X) where
   pub hires_quietly : (s : Table M m k) (r : Rule M m k s) (id : ℕ) (v : Shown V)
       → IsAt s.views id v → v.role ≡ Maker → v.who < k.callers
       → IsQuiet M m k s r (set s.views id (after_hire v) ++ hired M.starts v ∷ [])
+  unfolding with_seats
   hires_quietly s r id v at is left =
       let h = subst (λ (z : Role). Knows r.world r.content.views r.roll id z v) is
       (r.each id v at) in
@@ -192,41 +194,25 @@ module _ {X S V : Type 0} (M : Meaning X S V) (m : ℕ) (k : Plan X) where
         seen = (world_openings w, refl);
         known = λ i a e. absurd (none_there i a e);
       } in (
-        record {
-          world = w;
-          reached = r.reached;
-          content = r.content;
-          words = r.words;
-          sized = r.sized;
-          slots = r.slots;
-          slotted = r.slotted;
-          crowd = r.crowd;
-          few_callers = r.few_callers;
-          few_rooms = r.few_rooms;
-          roll = roll';
-          few_made = omega arith;
-          each = λ j x e. ⊎_elim
-              (after_step So' s.views id (after_hire v)
-              (subst (λ (z : Role). Knows w r.content.views roll' id z (after_hire v)) (sym is)
-              (own, ap (λ (z : ℕ). z + 1) num))
-              (λ i y apart f. still_so w r.content.views r.roll next i id own apart y.role y
-              (r.each i y f)) j x)
-              (λ (t : (j ≡ length (set s.views id (after_hire v))) × (new ≡ x)).
-              let here : j ≡ next = t.0 ∙ length-set s.views id (after_hire v) in
-              subst (λ (z : ℕ × Shown V). So' z.0 z.1) (λ i. (sym here i, t.1 i)) its)
-              (at_end (set s.views id (after_hire v)) new x j e);
-          unmade = λ c late under. r.unmade c (omega arith) under;
-          kept = λ j x e. ⊎_elim
-              (after_step (λ i y. ShowsKept M k.usage r.content.words y) s.views id (after_hire v)
-              (λ f. absurd (maker_not (sym is ∙ f))) (λ i y _ f. r.kept i y f) j x)
-              (λ (t : (j ≡ length (set s.views id (after_hire v))) × (new ≡ x)).
-              subst (λ (z : Shown V). ShowsKept M k.usage r.content.words z) t.1
-              (λ _ a b f. absurd (out_not a b f)))
-              (at_end (set s.views id (after_hire v)) new x j e);
-          lawful = r.lawful;
-          past = r.past;
-          waits = r.waits;
-        },
+        with_seats M m k s r roll' (set s.views id (after_hire v) ++ hired M.starts v ∷ []) (omega arith)
+            (λ j x e. ⊎_elim
+            (after_step So' s.views id (after_hire v)
+            (subst (λ (z : Role). Knows w r.content.views roll' id z (after_hire v)) (sym is)
+            (own, ap (λ (z : ℕ). z + 1) num))
+            (λ i y apart f. still_so w r.content.views r.roll next i id own apart y.role y
+            (r.each i y f)) j x)
+            (λ (t : (j ≡ length (set s.views id (after_hire v))) × (new ≡ x)).
+            let here : j ≡ next = t.0 ∙ length-set s.views id (after_hire v) in
+            subst (λ (z : ℕ × Shown V). So' z.0 z.1) (λ i. (sym here i, t.1 i)) its)
+            (at_end (set s.views id (after_hire v)) new x j e))
+            (λ c late under. r.unmade c (omega arith) under)
+            (λ j x e. ⊎_elim
+            (after_step (λ i y. ShowsKept M k.usage r.content.words y) s.views id (after_hire v)
+            (λ f. absurd (maker_not (sym is ∙ f))) (λ i y _ f. r.kept i y f) j x)
+            (λ (t : (j ≡ length (set s.views id (after_hire v))) × (new ≡ x)).
+            subst (λ (z : Shown V). ShowsKept M k.usage r.content.words z) t.1
+            (λ _ a b f. absurd (out_not a b f)))
+            (at_end (set s.views id (after_hire v)) new x j e)),
         refl,
       )
 

@@ -1,5 +1,5 @@
 -- Steps that change only what seats show: a note is made, and it is learned.
-use Rattle.std.proofs.Common.{◌≡◌, ℕ, ⊎_elim, ltb, List, [], ◌∷◌, ◌++◌, length, set, sym, refl, ◌∙◌, subst}
+use Rattle.std.proofs.Common.{◌≡◌, ℕ, ◌<◌, ◌≤◌, ⊎_elim, ltb, List, [], ◌∷◌, ◌++◌, length, set, sym, refl, ◌∙◌, subst}
 use Rattle.atomic_table.specs.Table.{Splits, Joins}
 use Rattle.atomic_table.proofs.Lists.{at_snoc, set_else}
 use Rattle.room_rule.specs.Use.{IsAt, Meaning}
@@ -7,7 +7,7 @@ use Rattle.room_rule.specs.Callers.{after_step}
 use Rattle.room_rule.specs.Openings.{world_openings}
 use Rattle.room_rule.specs.View.{noted, learned, gone}
 use Rattle.room_rule.specs.Quietly.{IsQuiet}
-use Rattle.room_rule.specs.Rule.{Knows, ShowsKept, Ruled}
+use Rattle.room_rule.specs.Rule.{Roll, Knows, IsUnmade, ShowsKept, Ruled}
 use Rattle.room_rule.specs.declared.rule.Plan.{Plan}
 use Rattle.room_rule.specs.declared.views.Role.{Role}
 use Rattle.room_rule.specs.declared.views.Role.TheVariants.{Pass, Note, Gone}
@@ -22,12 +22,14 @@ note_not : Note ≡ Pass → ⊥
 note_not e = cc
 
 module _ {X S V : Type 0} (M : Meaning X S V) (m : ℕ) (k : Plan X) where
-  -- the rule with other views, each of which shows what is so
-  unfoldable pub with_views : (s : Table M m k) (r : Rule M m k s) (views : List (Shown V))
-      → ((j : ℕ) (v : Shown V) → IsAt views j v → Knows r.world r.content.views r.roll j v.role v)
+  -- the rule with other seats, each of which shows what is so
+  unfoldable pub with_seats : (s : Table M m k) (r : Rule M m k s) (roll : Roll) (views : List (Shown V))
+      → roll.made ≤ k.callers
+      → ((j : ℕ) (v : Shown V) → IsAt views j v → Knows r.world r.content.views roll j v.role v)
+      → ((c : ℕ) → roll.made ≤ c → c < k.callers → IsUnmade r.world r.content.views M.starts c)
       → ((j : ℕ) (v : Shown V) → IsAt views j v → ShowsKept M k.usage r.content.words v)
       → Rule M m k (record { words = s.words; homes = s.homes; views = views })
-  with_views s r views each kept = record {
+  with_seats s r roll views few each unmade kept = record {
     world = r.world;
     reached = r.reached;
     content = r.content;
@@ -38,15 +40,22 @@ module _ {X S V : Type 0} (M : Meaning X S V) (m : ℕ) (k : Plan X) where
     crowd = r.crowd;
     few_callers = r.few_callers;
     few_rooms = r.few_rooms;
-    roll = r.roll;
-    few_made = r.few_made;
+    roll = roll;
+    few_made = few;
     each = each;
-    unmade = r.unmade;
+    unmade = unmade;
     kept = kept;
     lawful = r.lawful;
     past = r.past;
     waits = r.waits;
   }
+
+  -- with other views
+  abbrev pub with_views : (s : Table M m k) (r : Rule M m k s) (views : List (Shown V))
+      → ((j : ℕ) (v : Shown V) → IsAt views j v → Knows r.world r.content.views r.roll j v.role v)
+      → ((j : ℕ) (v : Shown V) → IsAt views j v → ShowsKept M k.usage r.content.words v)
+      → Rule M m k (record { words = s.words; homes = s.homes; views = views })
+  with_views s r views each kept = with_seats s r r.roll views r.few_made each r.unmade kept
 
   -- what the seat j shows is so, and so is what it shows of the words
   abbrev pub So : (s : Table M m k) (r : Rule M m k s) → ℕ → Shown V → Type 0
@@ -59,7 +68,7 @@ module _ {X S V : Type 0} (M : Meaning X S V) (m : ℕ) (k : Plan X) where
   pub learns_quietly : (s : Table M m k) (r : Rule M m k s) (id other : ℕ) (v w : Shown V)
       → IsAt s.views id v → IsAt s.views other w → v.role ≡ Pass → w.role ≡ Note
       → IsQuiet M m k s r (set (set s.views id (learned v w)) other (gone M.starts))
-  unfolding with_views
+  unfolding with_seats
   learns_quietly s r id other v w at was is note =
       let all = world_openings r.world in let now = learned v w in let end = gone M.starts in
       let its = subst (λ (z : Role). Knows r.world r.content.views r.roll other z w) note
@@ -94,7 +103,7 @@ module _ {X S V : Type 0} (M : Meaning X S V) (m : ℕ) (k : Plan X) where
   -- a note is made
   pub notes_quietly : (s : Table M m k) (r : Rule M m k s) (id : ℕ) (v : Shown V)
       → IsAt s.views id v → v.role ≡ Pass → IsQuiet M m k s r (set s.views id v ++ noted v ∷ [])
-  unfolding with_views
+  unfolding with_seats
   notes_quietly s r id v at is = let h = mine M m k s r id v at is in (
     with_views s r (set s.views id v ++ noted v ∷ [])
         (λ j d e. ⊎_elim (λ f.

@@ -1,11 +1,11 @@
 //! What holds of every table under the rule.
+ghost use Rattle.room_core.specs.Order.{trace_of};
 ghost use Rattle.room_rule.specs.Following.{StepsAreActs, DrawsAreActs, LeavesAreActs};
 ghost use Rattle.room_rule.specs.Following.{InsidersKeepIt, HoldersKeepIt, TouchesKeepIt};
 ghost use Rattle.room_rule.specs.States.{InEveryState, InsidersOccupy, OneRoom, NoneByTheKey};
 ghost use Rattle.room_rule.specs.States.{IsBoundedAlways, InsidersHaveLooked};
 ghost use Rattle.room_rule.specs.Quietly.{StepsAreQuiet};
 ghost use Rattle.room_rule.specs.Writers.{HoldersStepOnWords, OutsidersChangeTouchWords};
-ghost use Rattle.room_core.specs.Order.{trace_of};
 ghost use Rattle.room_core.specs.Apart.{IsApart};
 ghost use Rattle.room_core.specs.ExitOnce.{IsOncePerOpening};
 ghost use Rattle.room_core.specs.Admission.{IsAdmission};

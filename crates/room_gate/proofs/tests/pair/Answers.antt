@@ -1,30 +1,8 @@
-use Rattle.std.proofs.Common.{◌≡◌, ◌∙◌, ◌+◌, List, [], ◌∷◌, ◌++◌, length, sym, ap, subst, refl, arith, length-append}
-use Rattle.atomic_table.proofs.Lists.{at_last, at_longer}
-use Rattle.room_rule.specs.Use.{IsAt}
-use Rattle.room_gate.specs.Shows.{newcomer}
+use Rattle.std.proofs.Common.{refl}
+use Rattle.room_gate.proofs.Making.{two_of}
 use Rattle.room_gate.proofs.tests.pair.Goals as goal
 
 pub returns : goal.returns
 returns g c =
-    let one = c.in_ok-one.one in let two = c.in_ok-two.two in let rest = c.pop.new.self.items in
-    let less = c.pop-2.new.self.items in
-    let all_is : c.args.passes.items ≡ rest ++ two ∷ [] = c.in_ok-two.ensures.items in
-    let rest_is : rest ≡ less ++ one ∷ [] = c.in_ok-one.ensures.items in
-    let long : length (rest ++ two ∷ []) ≡ 2 = ap length (sym all_is) ∙ c.requires.long in
-    let rest_long : length rest ≡ length less + 1 = ap length rest_is
-    ∙ length-append less (one ∷ []) in
-    let none : length less ≡ 0 = omega (arith, length-append rest (two ∷ [])) in
-    let some : length rest ≡ 1 = omega arith in
-    let one_at : IsAt c.args.passes.items (length less) one =
-    subst (λ (l : List _). IsAt l (length less) one) (sym all_is)
-    (at_longer rest (two ∷ []) (length less) one
-    (subst (λ (l : List _). IsAt l (length less) one) (sym rest_is)
-    (at_last less one (length less) refl))) in
-    let two_at : IsAt c.args.passes.items (length rest) two =
-    subst (λ (l : List _). IsAt l (length rest) two) (sym all_is)
-    (at_last rest two (length rest) refl) in
-    let new = newcomer c.args.rooms.now.site c.args.draws g.U.RoomUse.meaning.starts in (
-      c.requires.each (length less) one one_at
-          ∙ ap new none,
-      c.requires.each (length rest) two two_at ∙ ap new some,
-    )
+    let all = two_of c.args.passes.items _ c.pop-2.new.self.items c.in_ok-one.one c.in_ok-two.two c.in_ok-two.ensures.items c.in_ok-one.ensures.items c.requires.long in
+    (c.requires.each 0 c.in_ok-one.one (rw all refl), c.requires.each 1 c.in_ok-two.two (rw all refl))
