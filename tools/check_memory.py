@@ -53,24 +53,25 @@ static long number_of(const char *name) {
     return text ? atol(text) : -1;
 }
 
-/* what comes before main is the loader's and the C library's own */
+/* to the file with the number that is told */
+static void tell(char what) {
+    long file = number_of("REFUSE_TELL");
+    if (file >= 0 && write((int)file, &what, 1) != 1) _exit(99);
+}
+
+/* what comes before main is the loader's and the C library's own; 0 tells that the library is there */
 __attribute__((constructor)) static void start(void) {
     first = number_of("REFUSE_REQUEST");
     first_thread = number_of("REFUSE_THREAD");
     all_after = number_of("REFUSE_ALL") == 1;
+    tell('0');
     is_started = 1;
 }
 
-/* whether something was refused, to the file with this number */
-__attribute__((destructor)) static void end(void) {
-    long file = number_of("REFUSE_TELL");
-    char is = refused ? '1' : '0';
-    if (file >= 0 && write((int)file, &is, 1) != 1) _exit(99);
-}
-
+/* 1 tells of the first refusal */
 static int is_chosen(long at, long chosen) {
     if (chosen < 0 || (all_after ? at < chosen : at != chosen)) return 0;
-    refused = 1;
+    if (!atomic_exchange(&refused, 1)) tell('1');
     return 1;
 }
 
@@ -135,7 +136,7 @@ def refusing(program, library, words, data, **choice):
     try:
         found = ran(program, words, data, env=env, pass_fds=[writer])
         os.close(writer)
-        return found, os.read(reader, 1)
+        return found, os.read(reader, 2)
     finally:
         os.close(reader)
 
