@@ -16,8 +16,8 @@ use std::sync::Wait;
 use std::thread::Threads;
 use work_pool::Gate;
 
-/// The bytes of the slid image, which are the same for each crew. Those that it was read from are gone
-/// then. It waits for the crew's workers.
+/// The bytes of the slid image, which are the same for each crew. They are made when those that it was
+/// read from, that image and its marks are gone. It waits for the crew's workers.
 pub fn compacted<R: Threads + Wait + Sync, G: Gate + Sync>(
     rt: &R,
     alloc: Global,
@@ -36,5 +36,7 @@ pub fn compacted<R: Threads + Wait + Sync, G: Gate + Sync>(
     let crew = crew_of(options);
     let marks = mark_with(rt, alloc, &image, &crew, gate)?;
     let slid = slide_with(rt, alloc, &image, &marks.live, &crew, gate)?;
+    drop(marks);
+    drop(image);
     Ok(write_image(alloc, &slid)?)
 }
