@@ -1,7 +1,8 @@
 //! A program that times the compactor's passes on an image that is made up.
 //!
-//! With the words `OBJECTS SEED WORKERS BLOCKS` it writes to standard error what marking and sliding
-//! take on one thread and with a crew. With no word it prints what a crew makes of a small image.
+//! With the words `OBJECTS SEED WORKERS BLOCKS` it writes to standard error what reading and writing,
+//! and marking and sliding on one thread and with a crew take. With no word it prints what a crew makes
+//! of a small image.
 #![tactic(auto)]
 
 ghost use Rattle.std.specs.Prelude.{IfOk, IfSome};

@@ -9,7 +9,7 @@ use crate::words::Job;
 use bay_core::Layout;
 use image_core::Image;
 use image_mark::{mark_one, mark_with};
-use image_reader::{fold, make_image};
+use image_reader::{fold, into_image, make_image, write_image};
 use image_slide::{slide_one, slide_with};
 use std::alloc::Global;
 use std::io;
@@ -19,11 +19,12 @@ use std::thread::Threads;
 use std::time::{Clock, Instant};
 use work_pool::{Crew, OpenGate};
 
-/// Times the passes of a job one after the other, and writes one line to standard error: how many
-/// objects there are and how many are live, what each pass takes in nanoseconds, and of a second
-/// marking, which is not timed, how often its workers asked the gate, how many objects they shared
-/// and how many they kept. It fails where the crew's marks are not those of one thread. It waits for
-/// the crew's workers.
+/// Times the steps of a job one after the other, and writes a line for each to standard error, in
+/// nanoseconds: reading the image's bytes, marking it on one thread, sliding it, writing the slid
+/// image's bytes, and marking and sliding with a crew. A last line has how many objects there are and
+/// how many are live, and of a second marking, which is not timed, how often its workers asked the gate,
+/// how many objects they shared and how many they kept. It fails where the crew's marks are not those
+/// of one thread. It waits for the crew's workers.
 pub fn time_all<R: Threads + Wait + Sync + Clock + Eprint>(
     rt: &R,
     alloc: Global,
@@ -31,18 +32,22 @@ pub fn time_all<R: Threads + Wait + Sync + Clock + Eprint>(
 ) -> io::Result<()>
     requires { IsJob job.now }
 {
-    let image = make_image(alloc, job.objects, job.seed)?;
-    let (live, one) = time_mark_one(rt, alloc, &image)?;
-    let (count, with) = time_mark_with(rt, alloc, &image, &job.crew)?;
-    let slide = time_slide_one(rt, alloc, &image, &live)?;
-    let slide_crew = time_slide_with(rt, alloc, &image, &live, &job.crew)?;
+    let made = make_image(alloc, job.objects, job.seed)?;
+    let image = time_read(rt, alloc, &made)?;
+    drop(made);
+    let live = time_mark_one(rt, alloc, &image)?;
+    let slid = time_slide_one(rt, alloc, &image, &live)?;
+    time_write(rt, alloc, &slid)?;
+    drop(slid);
+    let count = time_mark_with(rt, alloc, &image, &job.crew)?;
+    time_slide_with(rt, alloc, &image, &live, &job.crew)?;
     let gate = Count::new();
     let marks = mark_with(rt, alloc, &image, &job.crew, &gate)?;
     if marks.live != live || count != marks.count {
         return Err(io::Error::from(ErrorKind::InvalidData));
     }
     eprintln!(rt;
-        "objects {} live {} mark_one {one} mark_with {with} questions {} shared {} kept {} slide_one {slide} slide_with {slide_crew}",
+        "objects {} live {} questions {} shared {} kept {}",
         image.objects(),
         marks.count,
         gate.asked(),
@@ -51,52 +56,84 @@ pub fn time_all<R: Threads + Wait + Sync + Clock + Eprint>(
     )
 }
 
-// The marks of one thread, and what they took.
-fn time_mark_one<R: Clock>(rt: &R, alloc: Global, image: &Image) -> io::Result<(Vec<bool>, u128)>
-    ensures { IfOk result (λ found. MarksLive image.now found.0.items) }
+// Writes how long a step took, which began then.
+fn tell<R: Clock + Eprint>(rt: &R, step: &str, start: Instant) -> io::Result<()> {
+    let spent = start.elapsed(rt)?.as_nanos();
+    eprintln!(rt; "{step} {spent}")
+}
+
+// The image that the bytes of this one are, from memory.
+fn time_read<R: Clock + Eprint>(rt: &R, alloc: Global, image: &Image) -> io::Result<Image> {
+    let bytes = write_image(alloc, image)?;
+    let start = Instant::now(rt)?;
+    let Ok(read) = into_image(alloc, bytes) else {
+        return Err(io::Error::from(ErrorKind::InvalidData));
+    };
+    tell(rt, "read", start)?;
+    Ok(read)
+}
+
+// The bytes of an image are made.
+fn time_write<R: Clock + Eprint>(rt: &R, alloc: Global, image: &Image) -> io::Result<()> {
+    let start = Instant::now(rt)?;
+    let _bytes = write_image(alloc, image)?;
+    tell(rt, "write", start)
+}
+
+// The marks of one thread.
+fn time_mark_one<R: Clock + Eprint>(rt: &R, alloc: Global, image: &Image) -> io::Result<Vec<bool>>
+    ensures { IfOk result (λ live. MarksLive image.now live.items) }
 {
     let start = Instant::now(rt)?;
     let live = mark_one(alloc, image)?;
-    Ok((live, start.elapsed(rt)?.as_nanos()))
+    tell(rt, "mark_one", start)?;
+    Ok(live)
 }
 
-// How many objects a crew marks, and what it took.
-fn time_mark_with<R: Threads + Wait + Sync + Clock>(
+// How many objects a crew marks.
+fn time_mark_with<R: Threads + Wait + Sync + Clock + Eprint>(
     rt: &R,
     alloc: Global,
     image: &Image,
     crew: &Crew,
-) -> io::Result<(u32, u128)>
+) -> io::Result<u32>
     requires { IsCrew crew.now }
 {
     let start = Instant::now(rt)?;
     let marks = mark_with(rt, alloc, image, crew, &OpenGate)?;
-    Ok((marks.count, start.elapsed(rt)?.as_nanos()))
+    tell(rt, "mark_with", start)?;
+    Ok(marks.count)
 }
 
-// What sliding takes on one thread.
-fn time_slide_one<R: Clock>(rt: &R, alloc: Global, image: &Image, live: &[bool]) -> io::Result<u128>
+// The slid image of one thread.
+fn time_slide_one<R: Clock + Eprint>(
+    rt: &R,
+    alloc: Global,
+    image: &Image,
+    live: &[bool],
+) -> io::Result<Image>
     requires { MarksLive image.now live.now }
 {
     let start = Instant::now(rt)?;
-    let _slid = slide_one(alloc, image, live)?;
-    Ok(start.elapsed(rt)?.as_nanos())
+    let slid = slide_one(alloc, image, live)?;
+    tell(rt, "slide_one", start)?;
+    Ok(slid)
 }
 
-// What sliding takes with a crew.
-fn time_slide_with<R: Threads + Wait + Sync + Clock>(
+// The image is slid by a crew.
+fn time_slide_with<R: Threads + Wait + Sync + Clock + Eprint>(
     rt: &R,
     alloc: Global,
     image: &Image,
     live: &[bool],
     crew: &Crew,
-) -> io::Result<u128>
+) -> io::Result<()>
     requires marks { MarksLive image.now live.now }
     requires crew { IsCrew crew.now }
 {
     let start = Instant::now(rt)?;
     let _slid = slide_with(rt, alloc, image, live, crew, &OpenGate)?;
-    Ok(start.elapsed(rt)?.as_nanos())
+    tell(rt, "slide_with", start)
 }
 
 /// Prints what a crew of 4 workers over 1 block makes of an image of 1,000 objects: how many of them

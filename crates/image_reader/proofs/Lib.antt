@@ -5,3 +5,4 @@ pub mod Stages
 pub mod Drawing
 pub mod ObjectWords
 pub mod Lawful
+pub mod Reading

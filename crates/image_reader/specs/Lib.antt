@@ -6,3 +6,4 @@ pub mod Draws
 pub mod Made
 pub mod Plan
 pub mod Objects
+pub mod Reading

@@ -15,7 +15,7 @@ mod write;
 
 pub use folding::fold;
 pub use make::make_image;
-pub use read::read_image;
+pub use read::{into_image, read_image};
 pub use write::write_image;
 
 #[cfg(test)]

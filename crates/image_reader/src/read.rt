@@ -1,12 +1,8 @@
 //! The image that bytes are.
-ghost use Rattle.std.specs.Prelude.{◌≡◌, IfOk, IfErr, MatchResult};
-ghost use Rattle.image_core.specs.Heap.{Heap};
-ghost use Rattle.image_core.specs.Fault.{OnFault, Tells};
-ghost use Rattle.image_core.specs.declared.fault.ImageFault.{ImageFault};
-ghost use Rattle.image_core.specs.declared.fault.ReadImage.TheVariants.{Memory};
-ghost use Rattle.image_reader.specs.Bytes.{IsImage, Spells};
-ghost use Rattle.image_reader.specs.Fault.{HasFault};
+ghost use Rattle.std.specs.Prelude.{IfOk};
+ghost use Rattle.image_reader.specs.Bytes.{Spells};
 ghost use Rattle.image_reader.specs.Frame.{IsFrame};
+ghost use Rattle.image_reader.specs.Reading.{Reads};
 
 use crate::frame::{Frame, read_frame};
 use crate::words::words_of;
@@ -16,17 +12,21 @@ use std::alloc::{AllocError, Global};
 /// The image that bytes are. `Fault` where a test of them fails: the first, with its place and value.
 /// `Memory` where memory runs out.
 pub fn read_image(alloc: Global, bytes: &[u8]) -> Result<Image, ReadImage>
-    ensures image { IfOk result (IsImage bytes.now) }
-    ensures fault { IfErr result (λ refusal. OnFault refusal (HasFault bytes.now)) }
-    // The image that the bytes are is read, unless memory runs out.
-    ensures found { (heap : Heap) → IsImage bytes.now heap
-        → MatchResult result (λ image. image ≡ heap) (λ refusal. refusal ≡ Memory) }
-    // And so is their fault, which is the only one.
-    ensures told { (fault : ImageFault) → HasFault bytes.now fault
-        → MatchResult result (λ _. ⊥) (Tells fault) }
+    ensures { Reads bytes.now result }
 {
     let frame = read_frame(bytes)?;
     let (words, roots) = words_and_roots(alloc, bytes, frame)?;
+    Image::lawful(alloc, frame.format, words, roots)
+}
+
+/// The image that bytes are, as `read_image` tells it. The bytes are gone before the words that they
+/// spell are tested, so that they do not stand in memory beside what those tests need.
+pub fn into_image(alloc: Global, bytes: Vec<u8>) -> Result<Image, ReadImage>
+    ensures { Reads bytes.items result }
+{
+    let frame = read_frame(&bytes)?;
+    let (words, roots) = words_and_roots(alloc, &bytes, frame)?;
+    drop(bytes);
     Image::lawful(alloc, frame.format, words, roots)
 }
 

@@ -1,5 +1,5 @@
 //! Worked images as bytes, read, written and made up.
-use crate::{fold, make_image, read_image, write_image};
+use crate::{fold, into_image, make_image, read_image, write_image};
 use image_core::{ImageFault, ImageKind, ReadImage};
 use std::alloc::{AllocError, Global};
 use std::test::Fail;
@@ -93,7 +93,7 @@ fn images_are_made_up(rt: HostRuntime) -> Result<(), Fail> {
 fn an_image_that_is_made_up_is_read_again(rt: HostRuntime) -> Result<(), Fail> {
     let alloc = rt.alloc();
     let image = make_image(alloc, 3, 5)?;
-    match read_image(alloc, write_image(alloc, &image)?.as_slice()) {
+    match into_image(alloc, write_image(alloc, &image)?) {
         Ok(again) => {
             assert_eq!(rt; again.words(), image.words());
             assert_eq!(rt; again.roots(), image.roots());

@@ -9,7 +9,7 @@ use crate::crew::crew_of;
 use crate::status::Status;
 use command_words::{Command, Options};
 use image_mark::mark_with;
-use image_reader::{read_image, write_image};
+use image_reader::{into_image, write_image};
 use image_slide::slide_with;
 use std::alloc::Global;
 use std::sync::Wait;
@@ -31,8 +31,7 @@ pub fn compacted<R: Threads + Wait + Sync, G: Gate + Sync>(
     ensures accepts { Accepts (Command.Compact options.now) bytes.items → IfErr result (λ why. why ≡ Status.Memory) }
     ensures refuses { (why : Status) → Refuses (Command.Compact options.now) bytes.items why → (result ≡ Err why) ⊎ (result ≡ Err Status.Memory) }
 {
-    let image = read_image(alloc, &bytes)?;
-    drop(bytes);
+    let image = into_image(alloc, bytes)?;
     let crew = crew_of(options);
     let marks = mark_with(rt, alloc, &image, &crew, gate)?;
     let slid = slide_with(rt, alloc, &image, &marks.live, &crew, gate)?;

@@ -13,7 +13,7 @@ use crate::status::Status;
 use command_words::{Command, Made, Options};
 use image_core::Image;
 use image_mark::mark_with;
-use image_reader::{fold, make_image, read_image};
+use image_reader::{fold, into_image, make_image};
 use image_slide::slide_with;
 use std::alloc::{AllocError, Global};
 use std::fmt::Write;
@@ -36,8 +36,7 @@ pub fn read_marked<R: Threads + Wait + Sync, G: Gate + Sync>(
     ensures accepts { Accepts (Command.Mark options.now None) bytes.items → IfErr result (λ why. why ≡ Status.Memory) }
     ensures refuses { (why : Status) → Refuses (Command.Mark options.now None) bytes.items why → (result ≡ Err why) ⊎ (result ≡ Err Status.Memory) }
 {
-    let image = read_image(alloc, &bytes)?;
-    drop(bytes);
+    let image = into_image(alloc, bytes)?;
     Ok(summed(rt, alloc, &image, &crew_of(options), gate)?)
 }
 
