@@ -24,6 +24,7 @@ pub enum Entered<U: RoomUse> {
 impl<U: RoomUse> Rooms<U> {
     /// Draws a ticket of the room, and polls until it is inside. It waits for those that are let
     /// in before it to leave, and takes no memory.
+    #[inline(always)]
     pub fn enter<R: Wait>(&self, rt: &R, pass: Pass<U>, room: usize) -> Entered<U>
         requires own { pass.site ≡ self.now.site }
         requires room { room < U.ROOMS }
@@ -40,6 +41,7 @@ impl<U: RoomUse> Rooms<U> {
     }
 
     // Polls until it is inside.
+    #[inline(always)]
     fn poll_on<R: Wait>(&self, rt: &R, waiting: Waiting<U>) -> Inside<U>
         requires own { waiting.caller.site ≡ self.now.site }
         ensures same { IsThrough waiting result }
