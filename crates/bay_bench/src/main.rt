@@ -26,6 +26,7 @@ ghost use Rattle.bay_bench.specs.Words.{HasBay};
 
 mod handfuls;
 mod histories;
+mod lists;
 mod looks;
 mod meetings;
 mod timing;
@@ -53,14 +54,8 @@ fn main(rt: HostRuntime) -> ExitCode {
         Ok(Some(Command::History(callers, calls, blocks))) => {
             histories::print_history(&rt, rt.alloc(), blocks, callers, calls)
         }
-        Ok(Some(Command::Time(mix, items, threads, blocks))) => {
-            timing::time_all(&rt, rt.alloc(), blocks, mix, items, threads)
-        }
-        Ok(Some(Command::Handfuls(turn, items, threads, blocks))) => {
-            handfuls::time_all(&rt, rt.alloc(), blocks, turn, items, threads)
-        }
-        Ok(Some(Command::Looks(crowd, calls, threads, blocks))) => {
-            looks::time_all(&rt, rt.alloc(), blocks, crowd, calls, threads)
+        Ok(Some(Command::Time(task, threads, blocks))) => {
+            timing::time_all(&rt, rt.alloc(), blocks, task, threads)
         }
         Ok(Some(Command::Try)) => histories::try_histories(&rt, rt.alloc()),
         Ok(None) => return refused(&rt),

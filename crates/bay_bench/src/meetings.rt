@@ -3,6 +3,7 @@ ghost use Rattle.std.specs.Prelude.{◌≤◌};
 
 use bay_crew::Watch;
 use std::io;
+use std::io::{Eprint, ErrorKind};
 use std::sync::atomic::{AtomicU64, Ordering};
 use std::thread::yield_now;
 use std::time::{Clock, Instant};
@@ -10,8 +11,8 @@ use std::time::{Clock, Instant};
 /// How often a caller looks whether all have come: a second and more.
 const MOST_LOOKS: u32 = 10_000_000;
 
-/// The nanoseconds of one of so many calls, as whole ones and tenths, or 0 where there were none.
-pub fn tenths(taken: u64, calls: u64) -> (u128, u128) {
+// The nanoseconds of one of so many calls, as whole ones and tenths, or 0 where there were none.
+fn tenths(taken: u64, calls: u64) -> (u128, u128) {
     let all = u128::from(taken) * 10;
     let each = all.checked_div(u128::from(calls)).unwrap_or(0);
     (each / 10, each % 10)
@@ -48,9 +49,9 @@ impl<'a, R: Clock> Meeting<'a, R> {
         })
     }
 
-    /// The nanoseconds from when all had come until all were done, or none where a caller missed the
-    /// others.
-    pub fn taken(&self) -> Option<u64> {
+    // The nanoseconds from when all had come until all were done, or none where a caller missed the
+    // others.
+    fn taken(&self) -> Option<u64> {
         if self.missed.load(Ordering::SeqCst) > 0 {
             return None;
         }
@@ -78,6 +79,19 @@ impl<'a, R: Clock> Meeting<'a, R> {
             yield_now();
         }
         self.missed.fetch_add(1, Ordering::SeqCst);
+    }
+}
+
+impl<'a, R: Clock + Eprint> Meeting<'a, R> {
+    /// Writes to standard error what one of so many calls took, from when all had come until all were done,
+    /// with one decimal, or 0 where there were none. The error is `TimedOut` where a caller missed the others,
+    /// and else that of the write.
+    pub fn tell(&self, name: &str, threads: u32, run: u32, calls: u64) -> io::Result<()> {
+        let Some(taken) = self.taken() else {
+            return Err(io::Error::from(ErrorKind::TimedOut));
+        };
+        let (whole, tenth) = tenths(taken, calls);
+        eprintln!(self.clock; "{name} threads {threads} run {run} ns_per_op {whole}.{tenth}")
     }
 }
 

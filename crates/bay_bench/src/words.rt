@@ -21,20 +21,28 @@ pub struct Blocks {
     pub count: u32,
 }
 
+/// What is timed.
+#[derive(Clone, Copy)]
+pub enum Task {
+    /// Calls on a list, of which each thread puts so many items and takes as many, one by one and in
+    /// whole runs of 32.
+    Lists(Mix, u32),
+    /// Handfuls of 32, by which all threads together put so many items on the stack, each its part rounded
+    /// down to whole handfuls; where the turns take too, each thread takes 32 items one by one after each.
+    Handfuls(Turn, u32),
+    /// So many calls of each thread, after it put one item on the stack: all look at the top item, or all
+    /// but one, which puts an item and takes one by turns.
+    Looks(Crowd, u32),
+}
+
 /// What the program can be told to do.
 #[derive(Clone, Copy)]
 pub enum Command {
     /// To print the history of so many callers, with so many calls each.
     History(u32, u32, Blocks),
-    /// To time calls on a list, of which each thread puts so many items and takes as many, with so many
-    /// threads, up to 64, or else with the usual numbers of them.
-    Time(Mix, u32, Option<u32>, Blocks),
-    /// To time handfuls, by which all threads together put so many items, at most 32 for each block, with
-    /// so many threads, up to 64, or else with the usual numbers of them.
-    Handfuls(Turn, u32, Option<u32>, Blocks),
-    /// To time so many calls of each thread, which look at the top item of the stack, with so many threads,
-    /// up to 64, or else with the usual numbers of them.
-    Looks(Crowd, u32, Option<u32>, Blocks),
+    /// To time a task with so many threads, up to 64, or else with the usual numbers of them. Items that
+    /// are put by handfuls are at most 32 for each block.
+    Time(Task, Option<u32>, Blocks),
     /// To check small histories.
     Try,
 }
@@ -117,20 +125,21 @@ fn three_words(name: &str, first: &str, second: &str, blocks: Blocks) -> Option<
     }
 }
 
-// The command to time calls on a list, looks, or handfuls.
+// The command to time the task of a name.
 fn time_of(name: &str, items: &str, threads: Option<u32>, blocks: Blocks) -> Option<Command>
     requires blocks { IsBlocks blocks.layout blocks.count }
     requires threads { IfSome threads (λ number. number ≤ 64) }
     ensures { IfSome result HasBay }
 {
     let items = number(items)?;
-    match name {
-        "stack" => Some(Command::Time(Mix::Stack, items, threads, blocks)),
-        "queue" => Some(Command::Time(Mix::Queue, items, threads, blocks)),
-        "readers" => Some(Command::Looks(Crowd::Readers, items, threads, blocks)),
-        "beside" => Some(Command::Looks(Crowd::Beside, items, threads, blocks)),
-        _ => handfuls_of(turn_of(name)?, items, threads, blocks),
-    }
+    let task = match name {
+        "stack" => Task::Lists(Mix::Stack, items),
+        "queue" => Task::Lists(Mix::Queue, items),
+        "readers" => Task::Looks(Crowd::Readers, items),
+        "beside" => Task::Looks(Crowd::Beside, items),
+        _ => return handfuls_of(turn_of(name)?, items, threads, blocks),
+    };
+    Some(Command::Time(task, threads, blocks))
 }
 
 // What the callers do by turns, where the word names it.
@@ -151,7 +160,8 @@ fn handfuls_of(turn: Turn, items: u32, threads: Option<u32>, blocks: Blocks) -> 
     if items > 32 * blocks.count {
         return None;
     }
-    Some(Command::Handfuls(turn, items, threads, blocks))
+    let task = Task::Handfuls(turn, items);
+    Some(Command::Time(task, threads, blocks))
 }
 
 // The command to time the usual number of items by handfuls.
@@ -172,10 +182,10 @@ fn few(word: &str) -> Option<u32>
     Some(threads)
 }
 
-// The number of a word.
+// The number of a word, which is not 0.
 fn number(word: &str) -> Option<u32> {
-    if word.starts_with('0') || word.starts_with('+') {
-        return None;
+    match room_script::number(word.as_bytes())? {
+        0 => None,
+        number => u32::try_from(number).ok(),
     }
-    word.parse::<u32>().ok()
 }

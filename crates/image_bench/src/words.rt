@@ -3,6 +3,7 @@ ghost use Rattle.std.specs.Prelude.{◌≤◌, IfSome};
 ghost use Rattle.image_bench.specs.Jobs.{IsJob, HasJob};
 
 use bay_core::Layout;
+use room_script::number;
 use work_pool::Crew;
 
 /// The most objects of an image that is made up.
@@ -43,10 +44,10 @@ pub fn named_command(words: &[String]) -> Option<Command>
         [] => Some(Command::Try),
         [objects, seed, workers, blocks] => {
             let job = job_of(
-                number(objects)?,
-                number(seed)?,
-                number(workers)?,
-                number(blocks)?,
+                number(objects.as_bytes())?,
+                number(seed.as_bytes())?,
+                number(workers.as_bytes())?,
+                number(blocks.as_bytes())?,
             )?;
             Some(Command::Time(job))
         }
@@ -79,12 +80,4 @@ fn within(least: u32, most: u32, number: u64) -> Option<u32>
     } else {
         None
     }
-}
-
-// The number of a word.
-fn number(word: &str) -> Option<u64> {
-    if word != "0" && (word.starts_with('0') || word.starts_with('+')) {
-        return None;
-    }
-    word.parse::<u64>().ok()
 }

@@ -59,10 +59,10 @@ fn few(word: &str) -> Option<u32>
     Some(threads)
 }
 
-// The number of a word.
+// The number of a word, which is not 0.
 fn number(word: &str) -> Option<u32> {
-    if word.starts_with('0') || word.starts_with('+') {
-        return None;
+    match room_script::number(word.as_bytes())? {
+        0 => None,
+        number => u32::try_from(number).ok(),
     }
-    word.parse::<u32>().ok()
 }

@@ -12,12 +12,22 @@ use Rattle.image_reader.specs.Fault.{HasFault}
 use Rattle.image_reader.proofs.Spelling.{length-spelling}
 use Rattle.image_reader.proofs.Once.{no_fault}
 use Rattle.rooms_program.specs.Commands.{Reads, most_image, most_bytes, Accepts, IsOutput, RefusesImage, Refuses}
+use Rattle.rooms_program.specs.Limits.{IsAlone}
 use Rattle.rooms_program.specs.Runs.{WasRead}
 use Rattle.rooms_program.specs.Statuses.{of_read}
 use Rattle.command_words.specs.declared.command.Command.{Command}
 use Rattle.command_words.specs.declared.command.Command.TheVariants.{Compact, Mark, Check, Make, Trial, Schedule}
 use Rattle.rooms_program.specs.declared.status.Status.{Status}
 use Rattle.rooms_program.specs.declared.status.Status.TheVariants.{Good, Words, Image, ReadFault, WriteFault, Script, Act, TooLong, Memory}
+
+-- a command that reads an input and takes no threads reads
+pub alone_reads : (command : Command) → IsAlone command → Reads command
+alone_reads (Compact options) alone = absurd alone
+alone_reads (Mark options made) alone = absurd alone
+alone_reads (Make made) alone = absurd alone
+alone_reads Check alone = tt
+alone_reads Trial alone = absurd alone
+alone_reads Schedule alone = tt
 
 -- a command reads, or it does not
 pub reads_or_not : (command : Command) → Reads command ⊎ (¬ Reads command)

@@ -5,7 +5,7 @@ use Rattle.std.specs.declared.result.Result.{Result}
 use Rattle.std.specs.Io.KnownBytes.{Appends}
 use Rattle.room_io.specs.Causes.{Rose, AppendsPrefix}
 use Rattle.rooms_program.specs.Commands.{Reads, most_bytes, Accepts, IsOutput, Refuses}
-use Rattle.rooms_program.specs.Runs.{WasRead, WroteAll, WrotePart, WasRefused, IsAnswered, IsRefusal, Leaves}
+use Rattle.rooms_program.specs.Runs.{WasRead, Makes, Wrote, WasRefused, IsAnswered, IsRefusal, Leaves}
 use Rattle.rooms_program.specs.Limits.{Is}
 use Rattle.command_words.specs.declared.command.Command.{Command}
 use Rattle.rooms_program.specs.declared.status.Status.{Status}
@@ -40,35 +40,21 @@ module _ (command : Command) (left now_left : Option (List ℕ)) (bytes : List �
       ]
 
   module _ (written now_written : Option (List ℕ)) where
-    -- where the answer is good, an output was made, and is written whole
-    wrote_all : (made : Made) → IfOk made (λ output. IsOutput command bytes output.items) → IfErr made (IsWhy command bytes)
-        → IfOk made (λ output. answer ≡ Good → Appends written now_written output.items) → IfErr made (λ why. answer ≡ why)
-        → answer ≡ Good → WroteAll command left now_left written now_written
-    wrote_all (Ok output) defined why wrote same good = record {
+    -- where the answer is one that tells what was written, an output was made, and the sink gained of it what that answer tells
+    wrote_out : (Gained : Option (List ℕ) → Option (List ℕ) → List ℕ → Type 0) (this : Status) → this ≢ Memory → ¬ IsRefusal this
+        → (made : Made) → IfOk made (λ output. IsOutput command bytes output.items) → IfErr made (IsWhy command bytes)
+        → IfOk made (λ output. answer ≡ this → Gained written now_written output.items) → IfErr made (λ why. answer ≡ why)
+        → answer ≡ this → Wrote Gained command left now_left written now_written
+    wrote_out Gained this no_memory no_refusal (Ok output) defined why wrote same is = record {
       input = bytes;
       output = output.items;
       taken = λ reads. (read reads).taken;
       ended = λ reads. read_to_end command left now_left bytes output.items reads (read reads) defined;
       defined = defined;
-      wrote = wrote good;
+      wrote = wrote is;
     }
-    wrote_all (Err e) defined why wrote same good =
-        absurd (elim why [ inl m ↦ cc | inr r ↦ subst IsRefusal (sym same ∙ good) r.0 ])
-
-    -- where a write failed, an output was made, and a prefix of it is written
-    wrote_part : (made : Made) → IfOk made (λ output. IsOutput command bytes output.items) → IfErr made (IsWhy command bytes)
-        → IfOk made (λ output. answer ≡ WriteFault → AppendsPrefix written now_written output.items) → IfErr made (λ why. answer ≡ why)
-        → answer ≡ WriteFault → WrotePart command left now_left written now_written
-    wrote_part (Ok output) defined why wrote same fault = record {
-      input = bytes;
-      output = output.items;
-      taken = λ reads. (read reads).taken;
-      ended = λ reads. read_to_end command left now_left bytes output.items reads (read reads) defined;
-      defined = defined;
-      wrote = wrote fault;
-    }
-    wrote_part (Err e) defined why wrote same fault =
-        absurd (elim why [ inl m ↦ cc | inr r ↦ subst IsRefusal (sym same ∙ fault) r.0 ])
+    wrote_out Gained this no_memory no_refusal (Err e) defined why wrote same is =
+        absurd (elim why [ inl m ↦ no_memory (sym is ∙ same ∙ m) | inr r ↦ no_refusal (subst IsRefusal (sym same ∙ is) r.0) ])
 
 module _ (B : Type 0) (answer : Status) where
   -- where there is no cause but want of memory, and no write failed, the answer is good or tells that want
@@ -146,31 +132,29 @@ module _ {S K : Type 0} (left : S → Option (List ℕ)) (read_faults : S → �
         → (Reads command → WasRead (most_bytes command) (left source) (left now_source) bytes)
         → (Reads command → IfSome (left source) (λ input. bytes ≡ take (most_bytes command + 1) input))
         → (¬ Reads command → now_source ≡ source)
-        → IfOk made (λ output. IsOutput command bytes output.items) → IfErr made (IsWhy command bytes)
-        → (Accepts command bytes → IfErr made (λ why. why ≡ Memory))
-        → ((why : Status) → Refuses command bytes why → (made ≡ Err why) ⊎ (made ≡ Err Memory))
+        → Makes command bytes made
         → IfOk made (λ output. answer ≡ Good → Appends (written sink) (written now_sink) output.items)
         → IfOk made (λ output. answer ≡ WriteFault → AppendsPrefix (written sink) (written now_sink) output.items)
         → IfOk made (λ _. (answer ≡ Good) ⊎ ((answer ≡ WriteFault) × Rose (write_faults sink) (write_faults now_sink)))
         → IfErr made (λ why. answer ≡ why) → IfErr made (λ _. now_sink ≡ sink)
         → Leaves left read_faults written write_faults (Is command) source now_source sink now_sink answer
-    performed command bytes made read known unread defined why accepts refuses good cut wrote same unwritten =
+    performed command bytes made read known unread makes good cut wrote same unwritten =
         let B = Rose (write_faults sink) (write_faults now_sink) in
-        let no_words : answer ≢ Words = ended command bytes answer B (λ s. s ≢ Words) (λ e. cc) (λ _ e. cc) (λ e. cc) (λ s r e. subst IsRefusal e r) made why wrote same in
-        let no_read : answer ≢ ReadFault = ended command bytes answer B (λ s. s ≢ ReadFault) (λ e. cc) (λ _ e. cc) (λ e. cc) (λ s r e. subst IsRefusal e r) made why wrote same in
+        let no_words : answer ≢ Words = ended command bytes answer B (λ s. s ≢ Words) (λ e. cc) (λ _ e. cc) (λ e. cc) (λ s r e. subst IsRefusal e r) made makes.why wrote same in
+        let no_read : answer ≢ ReadFault = ended command bytes answer B (λ s. s ≢ ReadFault) (λ e. cc) (λ _ e. cc) (λ e. cc) (λ s r e. subst IsRefusal e r) made makes.why wrote same in
         record {
           words = λ e. absurd (no_words e);
           unnamed = λ none. absurd (none command refl);
           unread = λ none. unread (none command refl);
-          good = for_this _ command (wrote_all command (left source) (left now_source) bytes answer read (written sink) (written now_sink) made defined why good same);
-          refused = for_this _ command (was_refused command (left source) (left now_source) bytes answer read B made why wrote same);
+          good = for_this _ command (wrote_out command (left source) (left now_source) bytes answer read (written sink) (written now_sink) Appends Good (λ e. cc) (λ r. r) made makes.output makes.why good same);
+          refused = for_this _ command (was_refused command (left source) (left now_source) bytes answer read B made makes.why wrote same);
           read = λ e. absurd (no_read e);
           reader = λ _ _ e. absurd (no_read e);
-          write = ended command bytes answer B (λ s. s ≡ WriteFault → B) (λ e. absurd (cc)) (λ b e. b) (λ e. absurd (cc)) (λ s r e. absurd (subst IsRefusal e r)) made why wrote same;
-          cut = for_this _ command (wrote_part command (left source) (left now_source) bytes answer read (written sink) (written now_sink) made defined why cut same);
+          write = ended command bytes answer B (λ s. s ≡ WriteFault → B) (λ e. absurd (cc)) (λ b e. b) (λ e. absurd (cc)) (λ s r e. absurd (subst IsRefusal e r)) made makes.why wrote same;
+          cut = for_this _ command (wrote_out command (left source) (left now_source) bytes answer read (written sink) (written now_sink) AppendsPrefix WriteFault (λ e. cc) (λ r. r) made makes.output makes.why cut same);
           unwritten = kept sink now_sink answer B made unwritten wrote;
-          complete = for_this _ command (answered B answer (Rose (read_faults source) (read_faults now_source)) command (left source) bytes made known accepts refuses wrote same);
-          made = for_this _ command (λ no_reads. answer_accepted B answer made (accepts (unread_accepts command no_reads bytes)) wrote same);
+          complete = for_this _ command (answered B answer (Rose (read_faults source) (read_faults now_source)) command (left source) bytes made known makes.accepts makes.refuses wrote same);
+          made = for_this _ command (λ no_reads. answer_accepted B answer made (makes.accepts (unread_accepts command no_reads bytes)) wrote same);
         }
 
     -- and where it was told this one command, it leaves what that tells

@@ -19,6 +19,15 @@ IsWithin Check = Unit {0}
 IsWithin Trial = Unit {0}
 IsWithin Schedule = Unit {0}
 
+-- the command reads an input and takes no threads
+abbrev pub IsAlone : Command → Type 0
+IsAlone (Compact options) = ⊥
+IsAlone (Mark options made) = ⊥
+IsAlone (Make made) = ⊥
+IsAlone Check = Unit {0}
+IsAlone Trial = ⊥
+IsAlone Schedule = Unit {0}
+
 -- the command is this one
 abbrev pub Is : Command → Command → Type 0
 Is this command = command ≡ this

@@ -1,6 +1,8 @@
 -- What a run of a command did to its source, its sink and its notes.
-use Rattle.std.specs.Prelude.{◌≡◌, ◌≢◌, ℕ, None, ◌+◌, ◌⊎◌, List, length, take, IfSome}
+use Rattle.std.specs.Prelude.{◌≡◌, ◌≢◌, ℕ, None, Err, ◌+◌, ◌⊎◌, List, Vec, length, take, IfOk, IfErr, IfSome}
+use Rattle.std.specs.Global.{Global}
 use Rattle.std.specs.declared.option.Option.{Option}
+use Rattle.std.specs.declared.result.Result.{Result}
 use Rattle.std.specs.Io.KnownBytes.{Appends, Consumes, IsAtEnd}
 use Rattle.room_io.specs.Causes.{Rose, AppendsPrefix}
 use Rattle.rooms_program.specs.Commands.{Reads, most_bytes, Accepts, IsOutput, Refuses}
@@ -15,23 +17,15 @@ pub record WasRead (most : ℕ) (left now_left : Option (List ℕ)) (bytes : Lis
   pub taken : Consumes left now_left bytes
   pub enough : IsAtEnd now_left ⊎ (length bytes ≡ most + 1)
 
--- the input was read to its end, where the command reads, and the sink gained an output of it
-pub record WroteAll (command : Command) (left now_left written now_written : Option (List ℕ)) : Type 0 where
+-- the input was read to its end, where the command reads, and of an output of it the sink gained what this relation tells
+pub record Wrote (Gained : Option (List ℕ) → Option (List ℕ) → List ℕ → Type 0) (command : Command)
+    (left now_left written now_written : Option (List ℕ)) : Type 0 where
   pub input : List ℕ
   pub output : List ℕ
   pub taken : Reads command → Consumes left now_left input
   pub ended : Reads command → IsAtEnd now_left
   pub defined : IsOutput command input output
-  pub wrote : Appends written now_written output
-
--- the input was read to its end, where the command reads, and the sink gained a prefix of an output of it
-pub record WrotePart (command : Command) (left now_left written now_written : Option (List ℕ)) : Type 0 where
-  pub input : List ℕ
-  pub output : List ℕ
-  pub taken : Reads command → Consumes left now_left input
-  pub ended : Reads command → IsAtEnd now_left
-  pub defined : IsOutput command input output
-  pub wrote : AppendsPrefix written now_written output
+  pub wrote : Gained written now_written output
 
 -- the bytes that were read are refused, and the status says why
 pub record WasRefused (command : Command) (left now_left : Option (List ℕ)) (why : Status) : Type 0 where
@@ -52,6 +46,13 @@ IsRefusal (status.Act at why) = Unit {0}
 IsRefusal status.TooLong = Unit {0}
 IsRefusal _ = ⊥
 
+-- an output of these bytes, or why there is none: each cause that they give is told, unless memory runs out
+pub record Makes (command : Command) (bytes : List ℕ) (made : Result (Vec ℕ Global) Status) : Type 0 where
+  pub output : IfOk made (λ output. IsOutput command bytes output.items)
+  pub why : IfErr made (λ why. (why ≡ status.Memory) ⊎ (IsRefusal why × Refuses command bytes why))
+  pub accepts : Accepts command bytes → IfErr made (λ why. why ≡ status.Memory)
+  pub refuses : (why : Status) → Refuses command bytes why → (made ≡ Err why) ⊎ (made ≡ Err status.Memory)
+
 -- the notes gained the whole text, or a prefix of it where their count of faults rose
 abbrev pub IsNoted : Option (List ℕ) → Option (List ℕ) → ℕ → ℕ → List ℕ → Type 0
 IsNoted old new faults now_faults text = Appends old new text ⊎ (Rose faults now_faults × AppendsPrefix old new text)
@@ -63,13 +64,13 @@ pub record Leaves {S K : Type 0} (left : S → Option (List ℕ)) (read_faults :
   pub unnamed : ((command : Command) → ¬ Told command) → (answer ≡ status.Words) ⊎ (answer ≡ status.Memory)
   pub unread : ((command : Command) → Told command → ¬ Reads command) → now_source ≡ source
   pub good : (command : Command) → Told command → answer ≡ status.Good
-      → WroteAll command (left source) (left now_source) (written sink) (written now_sink)
+      → Wrote Appends command (left source) (left now_source) (written sink) (written now_sink)
   pub refused : (command : Command) → Told command → IsRefusal answer → WasRefused command (left source) (left now_source) answer
   pub read : answer ≡ status.ReadFault → Rose (read_faults source) (read_faults now_source)
   pub reader : (command : Command) → Told command → answer ≡ status.ReadFault → Reads command
   pub write : answer ≡ status.WriteFault → Rose (write_faults sink) (write_faults now_sink)
   pub cut : (command : Command) → Told command → answer ≡ status.WriteFault
-      → WrotePart command (left source) (left now_source) (written sink) (written now_sink)
+      → Wrote AppendsPrefix command (left source) (left now_source) (written sink) (written now_sink)
   pub unwritten : answer ≢ status.Good → answer ≢ status.WriteFault → now_sink ≡ sink
   pub complete : (command : Command) → Told command → IfSome (left source) (λ input.
       ¬ Rose (read_faults source) (read_faults now_source) → ¬ Rose (write_faults sink) (write_faults now_sink) → IsAnswered command input answer)

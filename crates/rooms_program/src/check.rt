@@ -1,8 +1,7 @@
 //! The command `check`: an image in, a line that tells how large it is out.
-ghost use Rattle.std.specs.Prelude.{◌≡◌, ◌⊎◌, [], ◌∷◌, Err, IfOk, IfErr};
+ghost use Rattle.std.specs.Prelude.{◌≡◌, [], ◌∷◌, IfOk};
 ghost use Rattle.room_script.specs.Prints.{text_of};
-ghost use Rattle.rooms_program.specs.Commands.{Accepts, IsOutput, Refuses};
-ghost use Rattle.rooms_program.specs.Runs.{IsRefusal};
+ghost use Rattle.rooms_program.specs.Runs.{Makes};
 ghost use Rattle.rooms_program.specs.Sizes.{size_line};
 
 use crate::status::Status;
@@ -14,10 +13,7 @@ use std::fmt::Write;
 
 /// How large the image is that the bytes are, in print.
 pub fn checked(alloc: Global, bytes: &[u8]) -> Result<Vec<u8>, Status>
-    ensures output { IfOk result (λ output. IsOutput Command.Check bytes.now output.items) }
-    ensures why { IfErr result (λ why. (why ≡ Status.Memory) ⊎ (IsRefusal why × Refuses Command.Check bytes.now why)) }
-    ensures accepts { Accepts Command.Check bytes.now → IfErr result (λ why. why ≡ Status.Memory) }
-    ensures refuses { (why : Status) → Refuses Command.Check bytes.now why → (result ≡ Err why) ⊎ (result ≡ Err Status.Memory) }
+    ensures { Makes Command.Check bytes.now result }
 {
     let image = read_image(alloc, bytes)?;
     Ok(print_size(alloc, &image)?)

@@ -1,9 +1,7 @@
 //! The command `compact`: an image in, its live objects alone out.
-ghost use Rattle.std.specs.Prelude.{◌≡◌, ◌⊎◌, Err, IfOk, IfErr};
 ghost use Rattle.work_pool.specs.Crews.{IsCrew};
-ghost use Rattle.rooms_program.specs.Commands.{Accepts, IsOutput, Refuses};
 ghost use Rattle.rooms_program.specs.Limits.{crew_of};
-ghost use Rattle.rooms_program.specs.Runs.{IsRefusal};
+ghost use Rattle.rooms_program.specs.Runs.{Makes};
 
 use crate::crew::crew_of;
 use crate::status::Status;
@@ -26,10 +24,7 @@ pub fn compacted<R: Threads + Wait + Sync, G: Gate + Sync>(
     gate: &G,
 ) -> Result<Vec<u8>, Status>
     requires { IsCrew (crew_of options.now) }
-    ensures output { IfOk result (λ output. IsOutput (Command.Compact options.now) bytes.items output.items) }
-    ensures why { IfErr result (λ why. (why ≡ Status.Memory) ⊎ (IsRefusal why × Refuses (Command.Compact options.now) bytes.items why)) }
-    ensures accepts { Accepts (Command.Compact options.now) bytes.items → IfErr result (λ why. why ≡ Status.Memory) }
-    ensures refuses { (why : Status) → Refuses (Command.Compact options.now) bytes.items why → (result ≡ Err why) ⊎ (result ≡ Err Status.Memory) }
+    ensures { Makes (Command.Compact options.now) bytes.items result }
 {
     let image = into_image(alloc, bytes)?;
     let crew = crew_of(options);

@@ -1,11 +1,10 @@
 //! The command `mark`: an image in, or one that is made up, and a summary of it out.
-ghost use Rattle.std.specs.Prelude.{◌≡◌, ◌≤◌, ◌^◌, ◌⊎◌, ◌++◌, None, Err, IfOk, IfErr, OnOk, string_bytes, codes};
+ghost use Rattle.std.specs.Prelude.{◌≡◌, ◌≤◌, ◌^◌, ◌++◌, None, IfOk, IfErr, OnOk, string_bytes, codes};
 ghost use Rattle.image_reader.specs.Made.{made};
 ghost use Rattle.room_script.specs.Prints.{text_of};
 ghost use Rattle.work_pool.specs.Crews.{IsCrew};
-ghost use Rattle.rooms_program.specs.Commands.{Accepts, IsOutput, Refuses};
 ghost use Rattle.rooms_program.specs.Limits.{crew_of};
-ghost use Rattle.rooms_program.specs.Runs.{IsRefusal};
+ghost use Rattle.rooms_program.specs.Runs.{Makes};
 ghost use Rattle.rooms_program.specs.Sizes.{IsSummary, named, summary};
 
 use crate::crew::crew_of;
@@ -31,10 +30,7 @@ pub fn read_marked<R: Threads + Wait + Sync, G: Gate + Sync>(
     gate: &G,
 ) -> Result<Vec<u8>, Status>
     requires { IsCrew (crew_of options.now) }
-    ensures output { IfOk result (λ output. IsOutput (Command.Mark options.now None) bytes.items output.items) }
-    ensures why { IfErr result (λ why. (why ≡ Status.Memory) ⊎ (IsRefusal why × Refuses (Command.Mark options.now None) bytes.items why)) }
-    ensures accepts { Accepts (Command.Mark options.now None) bytes.items → IfErr result (λ why. why ≡ Status.Memory) }
-    ensures refuses { (why : Status) → Refuses (Command.Mark options.now None) bytes.items why → (result ≡ Err why) ⊎ (result ≡ Err Status.Memory) }
+    ensures { Makes (Command.Mark options.now None) bytes.items result }
 {
     let image = into_image(alloc, bytes)?;
     Ok(summed(rt, alloc, &image, &crew_of(options), gate)?)

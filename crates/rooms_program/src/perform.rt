@@ -1,11 +1,11 @@
 //! Performing a command: the input is read, its output made whole in memory, and then written.
-ghost use Rattle.std.specs.Prelude.{◌≡◌, ◌⊎◌, ◌+◌, ◌≤◌, ◌^◌, take, Err, IfOk, IfErr, IfSome};
+ghost use Rattle.std.specs.Prelude.{◌≡◌, ◌⊎◌, ◌+◌, ◌≤◌, ◌^◌, take, IfOk, IfErr, IfSome};
 ghost use Rattle.std.specs.Io.KnownBytes.{Appends};
 ghost use Rattle.std.specs.Bool.{OnTrue, OnFalse};
 ghost use Rattle.room_io.specs.Causes.{Rose, AppendsPrefix};
-ghost use Rattle.rooms_program.specs.Commands.{Reads, most_bytes, Accepts, IsOutput, Refuses};
-ghost use Rattle.rooms_program.specs.Limits.{Is, IsWithin};
-ghost use Rattle.rooms_program.specs.Runs.{WasRead, IsRefusal, Leaves, LeavesMade};
+ghost use Rattle.rooms_program.specs.Commands.{Reads, most_bytes};
+ghost use Rattle.rooms_program.specs.Limits.{Is, IsWithin, IsAlone};
+ghost use Rattle.rooms_program.specs.Runs.{WasRead, Makes, Leaves, LeavesMade};
 
 use crate::check::checked;
 use crate::compact::compacted;
@@ -57,19 +57,29 @@ fn output<R: Threads + Wait + Sync, G: Gate + Sync>(
     gate: &G,
 ) -> Result<Vec<u8>, Status>
     requires { IsWithin command }
-    ensures output { IfOk result (λ output. IsOutput command bytes.items output.items) }
-    ensures why { IfErr result (λ why. (why ≡ Status.Memory) ⊎ (IsRefusal why × Refuses command bytes.items why)) }
-    ensures accepts { Accepts command bytes.items → IfErr result (λ why. why ≡ Status.Memory) }
-    ensures refuses { (why : Status) → Refuses command bytes.items why → (result ≡ Err why) ⊎ (result ≡ Err Status.Memory) }
+    ensures { Makes command bytes.items result }
 {
     match command {
         Command::Compact(options) => compacted(rt, alloc, &options, bytes, gate),
         Command::Mark(options, None) => read_marked(rt, alloc, &options, bytes, gate),
         Command::Mark(options, Some(made)) => made_marked(rt, alloc, &options, made, gate),
-        Command::Check => checked(alloc, &bytes),
         Command::Make(made) => made_bytes(alloc, made),
         Command::Trial => tried(rt, alloc, &bytes, gate),
-        Command::Schedule => scheduled(alloc, &bytes),
+        Command::Check | Command::Schedule => output_alone(alloc, command, &bytes),
+    }
+}
+
+/// The same of a command that waits for nobody.
+fn output_alone(alloc: Global, command: Command, bytes: &[u8]) -> Result<Vec<u8>, Status>
+    requires { IsAlone command }
+    ensures { Makes command bytes.now result }
+{
+    match command {
+        Command::Check => checked(alloc, bytes),
+        Command::Schedule => scheduled(alloc, bytes),
+        Command::Compact(_) | Command::Mark(_, _) | Command::Make(_) | Command::Trial => {
+            unreachable!()
+        }
     }
 }
 
@@ -146,27 +156,21 @@ pub fn perform<R: Threads + Wait + Sync, S: Source, K: Sink, G: Gate + Sync>(
     write_made(sink, made)
 }
 
-/// Reads a schedule and writes the run of the protocol on its acts. It waits for nobody.
-pub fn perform_schedule<S: Source, K: Sink>(alloc: Global, source: &mut S, sink: &mut K) -> Status
-    ensures { Leaves S.left S.faults K.written K.faults (Is Command.Schedule) source.old source.new sink.old sink.new result }
+/// Reads the input of `check` or `schedule`, and writes its output. It waits for nobody.
+pub fn perform_alone<S: Source, K: Sink>(
+    alloc: Global,
+    command: Command,
+    source: &mut S,
+    sink: &mut K,
+) -> Status
+    requires { IsAlone command }
+    ensures { Leaves S.left S.faults K.written K.faults (Is command) source.old source.new sink.old sink.new result }
 {
-    let bytes = match read_input(alloc, Command::Schedule, source) {
+    let bytes = match read_input(alloc, command, source) {
         Ok(bytes) => bytes,
         Err(status) => return status,
     };
-    let made = scheduled(alloc, &bytes);
-    write_made(sink, made)
-}
-
-/// Reads an image and writes how large it is. It waits for nobody.
-pub fn perform_check<S: Source, K: Sink>(alloc: Global, source: &mut S, sink: &mut K) -> Status
-    ensures { Leaves S.left S.faults K.written K.faults (Is Command.Check) source.old source.new sink.old sink.new result }
-{
-    let bytes = match read_input(alloc, Command::Check, source) {
-        Ok(bytes) => bytes,
-        Err(status) => return status,
-    };
-    let made = checked(alloc, &bytes);
+    let made = output_alone(alloc, command, &bytes);
     write_made(sink, made)
 }
 

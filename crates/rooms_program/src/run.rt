@@ -5,7 +5,7 @@ ghost use Rattle.rooms_program.specs.Limits.{Is};
 ghost use Rattle.rooms_program.specs.Runs.{Leaves, LeavesMade, LeavesNote};
 
 use crate::notes::give_note;
-use crate::perform::{perform, perform_check, perform_make, perform_schedule};
+use crate::perform::{perform, perform_alone, perform_make};
 use crate::status::Status;
 use command_words::{Command, Made, named_command};
 use room_io::{Sink, Source};
@@ -94,7 +94,7 @@ pub fn schedule_run<S: Source, K: Sink, N: Sink>(
     ensures leaves { Leaves S.left S.faults K.written K.faults (Is Command.Schedule) source.old source.new sink.old sink.new result }
     ensures note { LeavesNote N.written N.faults notes.old notes.new result }
 {
-    let status = perform_schedule(alloc, source, sink);
+    let status = perform_alone(alloc, Command::Schedule, source, sink);
     give_note(notes, status);
     status
 }
@@ -110,7 +110,7 @@ pub fn check_run<S: Source, K: Sink, N: Sink>(
     ensures leaves { Leaves S.left S.faults K.written K.faults (Is Command.Check) source.old source.new sink.old sink.new result }
     ensures note { LeavesNote N.written N.faults notes.old notes.new result }
 {
-    let status = perform_check(alloc, source, sink);
+    let status = perform_alone(alloc, Command::Check, source, sink);
     give_note(notes, status);
     status
 }

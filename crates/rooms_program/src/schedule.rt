@@ -1,7 +1,5 @@
 //! The command `schedule`: the text of a schedule in, its run in print out.
-ghost use Rattle.std.specs.Prelude.{◌≡◌, ◌⊎◌, Err, IfOk, IfErr};
-ghost use Rattle.rooms_program.specs.Commands.{Accepts, IsOutput, Refuses};
-ghost use Rattle.rooms_program.specs.Runs.{IsRefusal};
+ghost use Rattle.rooms_program.specs.Runs.{Makes};
 
 use crate::status::Status;
 use command_words::Command;
@@ -14,10 +12,7 @@ pub const MOST_TEXT: usize = 1_048_576;
 
 /// The run of the protocol on the acts of a schedule, in print.
 pub fn scheduled(alloc: Global, text: &[u8]) -> Result<Vec<u8>, Status>
-    ensures output { IfOk result (λ output. IsOutput Command.Schedule text.now output.items) }
-    ensures why { IfErr result (λ why. (why ≡ Status.Memory) ⊎ (IsRefusal why × Refuses Command.Schedule text.now why)) }
-    ensures accepts { Accepts Command.Schedule text.now → IfErr result (λ why. why ≡ Status.Memory) }
-    ensures refuses { (why : Status) → Refuses Command.Schedule text.now why → (result ≡ Err why) ⊎ (result ≡ Err Status.Memory) }
+    ensures { Makes Command.Schedule text.now result }
 {
     if text.len() > MOST_TEXT {
         return Err(Status::TooLong);

@@ -1,7 +1,5 @@
 //! The command `trial`: the text of a trial in, the one history of its callers in print out.
-ghost use Rattle.std.specs.Prelude.{◌≡◌, ◌⊎◌, Err, IfOk, IfErr};
-ghost use Rattle.rooms_program.specs.Commands.{Accepts, IsOutput, Refuses};
-ghost use Rattle.rooms_program.specs.Runs.{IsRefusal};
+ghost use Rattle.rooms_program.specs.Runs.{Makes};
 
 use crate::schedule::MOST_TEXT;
 use crate::status::Status;
@@ -20,10 +18,7 @@ pub fn tried<R: Threads + Wait + Sync, G: Gate + Sync>(
     text: &[u8],
     gate: &G,
 ) -> Result<Vec<u8>, Status>
-    ensures output { IfOk result (λ output. IsOutput Command.Trial text.now output.items) }
-    ensures why { IfErr result (λ why. (why ≡ Status.Memory) ⊎ (IsRefusal why × Refuses Command.Trial text.now why)) }
-    ensures accepts { Accepts Command.Trial text.now → IfErr result (λ why. why ≡ Status.Memory) }
-    ensures refuses { (why : Status) → Refuses Command.Trial text.now why → (result ≡ Err why) ⊎ (result ≡ Err Status.Memory) }
+    ensures { Makes Command.Trial text.now result }
 {
     if text.len() > MOST_TEXT {
         return Err(Status::TooLong);

@@ -4,10 +4,9 @@ use Rattle.rooms_program.proofs.perform.perform.Goals as goal
 pub returns : goal.returns
 returns g c =
     let read = c.in-Ok.ensures in
-    let made = c.output-made.ensures in
     let put = c.write_made.ensures in
     performed g.S.Source.left g.S.Source.faults g.K.Sink.written g.K.Sink.faults _ _ _ _ _ c.args.command c.in-Ok.bytes.items c.output-made.result
-    read.read read.known read.unread made.output made.why made.accepts made.refuses put.good put.cut put.why put.refused put.unwritten
+    read.read read.known read.unread c.output-made.ensures put.good put.cut put.why put.refused put.unwritten
 
 pub returns-in-Err : goal.returns-in-Err
 returns-in-Err g c =

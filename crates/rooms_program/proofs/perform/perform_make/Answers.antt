@@ -8,5 +8,6 @@ returns g c =
     let made = c.made_bytes-made.ensures in
     let put = c.write_made.ensures in
     performed {S = Unit {0}} (λ _. None) (λ _. 0) g.K.Sink.written g.K.Sink.faults tt tt _ _ _ (Make c.args.wanted) [] c.made_bytes-made.result
-    (λ none. absurd none) (λ none. absurd none) (λ _. cc) made.output (made_why (Make c.args.wanted) [] c.made_bytes-made.result made.memory)
-    (λ _. made.memory) (λ why none. absurd none) put.good put.cut put.why put.refused put.unwritten
+    (λ none. absurd none) (λ none. absurd none) (λ _. cc)
+    (record { output = made.output; why = made_why (Make c.args.wanted) [] c.made_bytes-made.result made.memory; accepts = λ _. made.memory; refuses = λ why none. absurd none })
+    put.good put.cut put.why put.refused put.unwritten
